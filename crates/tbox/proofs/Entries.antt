@@ -1,0 +1,67 @@
+-- Laws of a record's word, and of the records that a table of words holds.
+use Prim.Native.Nat.{ℕ, zero, suc, _+_, _*_, _/_, _%_, _≤_, _<_}
+use mathlib.Core.Path.{_≡_, refl, ap, _∙_}
+use mathlib.Core.Bool.{Bool, true, false}
+use mathlib.Core.List.{List, [], _∷_, _++_, map, map-append}
+use lib.ListN.{length, getD, take, set, length-take, length-map, List·getD-map, List·getD-eq-default}
+use lib.Seq.{getD-take, take-set-lt, length-take-le, take-suc-set}
+use lib.Dec.{eqb}
+use native.Mathlib.Numerals.{add-one}
+use native.Mathlib.Omega.{arith}
+use Rattle.tbox.specs.declared.records.Entry.{Entry}
+use Rattle.tbox.specs.Scan.{recordAt, blank}
+use Rattle.tbox.specs.Tables.{entryOf, seen, flag}
+
+entry-is : (w : ℕ) (e : Entry) → w % 256 ≡ e .kind → w / 256 % 256 ≡ e .first → w / 65536 % 256 ≡ e .second →
+    w / 16777216 % 2 ≡ flag (e .named) → w / 33554432 % 2 ≡ flag (e .vacuous) → entryOf w ≡ e
+unfolding entryOf
+entry-is w e k a b n v = rw (k, a, b, n, v, back (e .named), back (e .vacuous))
+  where
+    back : (x : Bool) → eqb (flag x) 1 ≡ x
+    back true = refl
+    back false = refl
+
+-- the word of an entry, read as an entry
+pub word-entry : (e : Entry) (n v : ℕ) → e .kind < 256 → e .first < 256 → e .second < 256 → n ≡ flag (e .named) → v ≡ flag (e .vacuous) →
+    n ≤ 1 → v ≤ 1 → entryOf (e .kind + 256 * e .first + 65536 * e .second + 16777216 * (n + 2 * v)) ≡ e
+word-entry e n v k a b p q l m =
+    entry-is (e .kind + 256 * e .first + 65536 * e .second + 16777216 * (n + 2 * v)) e (omega arith) (omega arith) (omega arith) (omega arith) (omega arith)
+
+-- record r of the first n, and past them
+pub seen-at : (t : List ℕ) (n r : ℕ) → r < n → recordAt (seen t n) r ≡ entryOf (getD t r 0)
+unfolding seen entryOf
+seen-at t n r h = List·getD-map entryOf (take n t) r 0 ∙ ap entryOf (getD-take n t r 0 h)
+
+pub seen-short : (t : List ℕ) (n r : ℕ) → n ≤ r → length (seen t n) ≤ r
+unfolding seen
+seen-short t n r h = simp (length-map, length-take) (omega arith)
+
+pub seen-past : (t : List ℕ) (n r : ℕ) → n ≤ r → recordAt (seen t n) r ≡ blank
+seen-past t n r h = List·getD-eq-default (seen t n) blank (seen-short t n r h)
+
+pub seen-length : (t : List ℕ) (n : ℕ) → n ≤ length t → length (seen t n) ≡ n
+unfolding seen
+seen-length t n h = length-map (take n t) entryOf ∙ length-take-le n t h
+
+-- a table has 255 words
+pub seen-within : (t : List ℕ) (n r : ℕ) → length t ≡ 255 → n ≤ 255 → r < n → r < length (seen t n)
+seen-within t n r e l h = rw (seen-length t n (omega arith)) h
+
+pub seen-none : (t : List ℕ) → seen t 0 ≡ []
+unfolding seen
+seen-none t = refl
+
+map-set : {A B : Type 0} (f : A → B) (l : List A) (i : ℕ) (a : A) → map f (set l i a) ≡ set (map f l) i (f a)
+map-set f [] i a = refl
+map-set f (x ∷ l) zero a = refl
+map-set f (x ∷ l) (suc i) a = ap (λ (r : List _). f x ∷ r) (map-set f l i a)
+
+-- after a store within the first n, and right after them
+pub seen-set : (t : List ℕ) (n r w : ℕ) → r < n → seen (set t r w) n ≡ set (seen t n) r (entryOf w)
+unfolding seen
+seen-set t n r w h = ap (map entryOf) (take-set-lt n t r w h) ∙ map-set entryOf (take n t) r w
+
+pub seen-append : (t : List ℕ) (n w : ℕ) (e : Entry) → length t ≡ 255 → n < 255 → entryOf w ≡ e → seen (set t n w) (n + 1) ≡ seen t n ++ (e ∷ [])
+unfolding seen
+seen-append t n w e l h p =
+    rw add-one (ap (map entryOf) (take-suc-set t n w (omega arith)) ∙ map-append entryOf (take n t) (w ∷ []) ∙ ap (λ (x : Entry). map entryOf (take n t) ++ (x ∷ [])) p)

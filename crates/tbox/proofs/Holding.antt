@@ -1,0 +1,104 @@
+-- Laws on tables of parts: what a word more, and what going through a concept adds to the parts that a table stands for.
+use Prim.Native.Nat.{ℕ, _+_, _≤_, _<_, min}
+use mathlib.Core.Path.{_≡_, refl, _∙_}
+use mathlib.Core.Bool.{Bool, true, false, cond}
+use mathlib.Core.List.{List, [], _∷_, _++_, append-assoc, append-nil}
+use lib.ListN.{length, getD, set, length-append, List·getD-append}
+use lib.Seq.{getD-set-same, getD-set-other, getD-at}
+use lib.Dec.{ltb, eqb}
+use native.Mathlib.Omega.{arith}
+use borrow.Author.Tests.{ltb-true, ltb-false, lt-ltb, le-ltb, eqb-true, eqb-false}
+use Rattle.tbox.specs.declared.records.Entry.{Entry}
+use Rattle.tbox.specs.Normal.{Nf, andN, orN}
+use Rattle.tbox.specs.Flatten.{Part, walk, partAt, noPart}
+use Rattle.tbox.specs.Tables.{Stands, Stood, Held, Adds, Pushed, Met}
+
+-- a word put at the end
+push-count : (limit n m k : ℕ) (b : Bool) → ltb n limit ≡ b → n ≡ min k (limit + 1) → m ≡ cond b (n + 1) (limit + 1) → m ≡ min (k + 1) (limit + 1)
+push-count limit n m k true q h e = let l = ltb-true n limit q in omega arith
+push-count limit n m k false q h e = let l = ltb-false n limit q in omega arith
+
+push-stood : (es : List Entry) (before : List ℕ) (word : ℕ) (after : List ℕ) (so : List Part) (p : Part) → Stood es before so → Stands es (length so) word p →
+    length so < length before → after ≡ set before (length so) word → Stood es after (so ++ (p ∷ []))
+push-stood es before word after so p h s l e k i = go (eqb k (length so)) refl
+  where
+    last : k ≡ length so → Stands es k (getD after k 0) (partAt (so ++ (p ∷ [])) k)
+    last q = rw (q, e, getD-set-same before (length so) word 0 l, getD-at so p [] noPart (length so) refl) s
+
+    other : (k ≡ length so → ⊥) → k < length so → Stands es k (getD after k 0) (partAt (so ++ (p ∷ [])) k)
+    other q j = rw (e, getD-set-other before (length so) k word 0 q, List·getD-append so (p ∷ []) noPart k j) (h k j)
+
+    go : (b : Bool) → eqb k (length so) ≡ b → Stands es k (getD after k 0) (partAt (so ++ (p ∷ [])) k)
+    go true q = last (eqb-true k (length so) q)
+    go false q =
+        let x = eqb-false k (length so) q in
+        let y : k < length so + 1 = rw (length-append so (p ∷ [])) at i in
+        other x (omega arith)
+
+pub held-push : {limit : ℕ} {es : List Entry} {before : List ℕ} {n word : ℕ} {after : List ℕ} {m : ℕ} {so : List Part} (p : Part) →
+    Held limit es before n so → Stands es (length so) word p → Pushed limit before n word after m → Held limit es after m (so ++ (p ∷ []))
+held-push {limit} {es} {before} {n} {word} {after} {m} {so} p h s w =
+    record {
+      count = rw (length-append so (p ∷ [])) (push-count limit n m (length so) (ltb n limit) refl (h .count) (w .count));
+      stand = λ i. fits (rw (length-append so (p ∷ [])) at i);
+    }
+  where
+    fits : length so + 1 ≤ limit → Stood es after (so ++ (p ∷ []))
+    fits i =
+        let e : n ≡ length so = omega (arith, h .count) in
+        push-stood es before word after so p (h .stand (omega arith)) s (omega (arith, w .room (omega arith)))
+        (w .table ∙ rw (e, lt-ltb (length so) limit (omega arith)) refl)
+
+-- above the limit the words no longer count
+pub held-over : {limit : ℕ} {es : List Entry} {t : List ℕ} {n : ℕ} {so : List Part} (t′ : List ℕ) (ps : List Part) → limit < n → Held limit es t n so →
+    Held limit es t′ n (so ++ ps)
+held-over {limit} {es} {t} {n} {so} t′ ps o h =
+    record {
+      count = rw (length-append so ps) (omega (arith, h .count));
+      stand = λ i. absurd (let j : length so + length ps ≤ limit = rw (length-append so ps) at i in omega (arith, h .count));
+    }
+
+pub held-append-nil : {limit : ℕ} {es : List Entry} {t : List ℕ} {n : ℕ} {so : List Part} → Held limit es t n so → Held limit es t n (so ++ [])
+held-append-nil h = rw append-nil h
+
+-- a count up to the limit is that of the parts
+pub held-length : {limit : ℕ} {es : List Entry} {t : List ℕ} {n : ℕ} {so : List Part} → n ≤ limit → Held limit es t n so → length so ≡ n
+held-length l h = omega (arith, h .count)
+
+-- what the code puts at the end
+pub pushed-fits : {limit : ℕ} {before : List ℕ} {n word : ℕ} {after : List ℕ} → n < limit → n < length before → after ≡ set before n word →
+    Pushed limit before n word after (n + 1)
+pushed-fits {limit} {before} {n} {word} {after} h r e = record { count = rw (lt-ltb n limit h) refl; table = rw (lt-ltb n limit h) e; room = λ _. r }
+
+pub pushed-over : (limit : ℕ) (before : List ℕ) (n word : ℕ) → limit ≤ n → Pushed limit before n word before (limit + 1)
+pushed-over limit before n word h = record { count = rw (le-ltb n limit h) refl; table = rw (le-ltb n limit h) refl; room = λ i. absurd (omega arith) }
+
+module _ {limit : ℕ} {before : List ℕ} {n x first second a : ℕ} {after : List ℕ} {m : ℕ} where
+  pub met-alone : (a ≡ 258 → ⊥) → x ≡ first → Pushed limit before n x after m → Met limit before n first second a after m
+  met-alone h p w = record { alone = λ _. rw p at w; both = λ e. absurd (h e) }
+
+  pub met-both : {y : ℕ} {t : List ℕ} {k : ℕ} → a ≡ 258 → x ≡ first → y ≡ second → Pushed limit before n x t k → Pushed limit t k y after m →
+      Met limit before n first second a after m
+  met-both {y} {t} {k} h p q v w = record { alone = λ e. absurd (e h); both = λ _. (t, k, rw p at v, rw q at w) }
+
+-- what going through a concept adds
+module _ (limit : ℕ) (es : List Entry) where
+  pub adds-none : (c : Nf) (t : List ℕ) (n : ℕ) → ((so : List Part) → walk c so .parts ≡ []) → Adds limit es c t n t n
+  adds-none c t n e so h = rw (e so, append-nil so) h
+
+  pub adds-same : (c d : Nf) (before : List ℕ) (n : ℕ) (after : List ℕ) (m : ℕ) → Adds limit es c before n after m → c ≡ d → Adds limit es d before n after m
+  adds-same c d before n after m a e = rw e at a
+
+  -- first c, then d
+  module _ (c d : Nf) (before : List ℕ) (n : ℕ) (mid : List ℕ) (k : ℕ) (after : List ℕ) (m : ℕ) where
+    both-parts : Adds limit es c before n mid k → Adds limit es d mid k after m → (so : List Part) → Held limit es before n so →
+        Held limit es after m (so ++ (walk c so .parts ++ walk d (so ++ walk c so .parts) .parts))
+    both-parts a b so h = rw append-assoc at (b (so ++ walk c so .parts) (a so h))
+
+    pub adds-and : Adds limit es c before n mid k → Adds limit es d mid k after m → Adds limit es (andN c d) before n after m
+    unfolding walk
+    adds-and a b so h = both-parts a b so h
+
+    pub adds-or : Adds limit es c before n mid k → Adds limit es d mid k after m → Adds limit es (orN c d) before n after m
+    unfolding walk
+    adds-or a b so h = both-parts a b so h

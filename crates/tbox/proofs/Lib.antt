@@ -1,0 +1,16 @@
+pub mod Entries
+pub mod Faults
+pub mod Scanning
+pub mod Trees
+pub mod Formed
+pub mod Bounded
+pub mod Queue
+pub mod Atoms
+pub mod Holding
+pub mod Turning
+pub mod Valuing
+pub mod Wording
+pub mod Slots
+pub mod Admitting
+pub mod Basing
+pub mod Worked

@@ -1,0 +1,50 @@
+use mathlib.Core.Path.{refl}
+use Rattle.tbox.proofs.Entries.{seen-append}
+use borrow.Author.Needs.{needs}
+use Rattle.tbox.proofs.records.append.Statement.{statement}
+use Rattle.tbox.proofs.records.append.Tie as tie
+
+sized-requires : tie.Need-sized-requires
+sized-requires c κs = search needs
+
+word-of-requires : tie.Need-word-of-requires
+word-of-requires c κs = search needs
+
+mul-table : tie.Need-mul-table
+mul-table c = search needs
+
+element-write-table : tie.Need-element-write-table
+element-write-table c = search needs
+
+add-t9 : tie.Need-add-t9
+add-t9 c = search needs
+
+add-t12 : tie.Need-add-t12
+add-t12 c = search needs
+
+add-t14 : tie.Need-add-t14
+add-t14 c = search needs
+
+names-after-requires : tie.Need-names-after-requires
+names-after-requires c κs = search needs
+
+roles-after-requires : tie.Need-roles-after-requires
+roles-after-requires c κs = search needs
+
+returns : tie.Need-returns
+returns c = record { records = seen-append _ _ _ _ (c .before .before .before .before .sized .ensures) (c .before .before .before .before .before .before .pre .0) (c .before .before .before .word-of .ensures); count = refl; at = refl; names = c .before .names-after .ensures; roles = c .roles-after .ensures }
+
+pub append-spec : {M : Type 1} → statement M
+append-spec =
+    tie.close
+    (tie.spec
+    sized-requires
+    word-of-requires
+    mul-table
+    element-write-table
+    add-t9
+    add-t12
+    add-t14
+    names-after-requires
+    roles-after-requires
+    returns)

@@ -1,0 +1,50 @@
+use mathlib.Core.Path.{refl, _∙_}
+use Rattle.tbox.proofs.Faults.{body-number, body-first, body-second, body-last, body-refused}
+use borrow.Author.Needs.{needs}
+use Rattle.tbox.proofs.records.body_fault.Statement.{statement}
+use Rattle.tbox.proofs.records.body_fault.Tie as tie
+
+empty-fault-requires : tie.Need-empty-fault-requires
+empty-fault-requires c κs = search needs
+
+number-fault-requires : tie.Need-number-fault-requires
+number-fault-requires c κs = search needs
+
+returns : tie.Need-returns
+returns c = body-refused _ _ _ _ _ _ _ (body-number _ _ _ _ _ _ _ (c .before .number-fault .ensures) refl refl (c .if1 .taken)) (c .if1 .taken)
+
+reference-fault-requires : tie.Need-reference-fault-requires
+reference-fault-requires c κs = search needs
+
+returns-2 : tie.Need-returns-2
+returns-2 c = body-refused _ _ _ _ _ _ _ (body-first _ _ _ _ _ _ _ (c .before .before .before .before .number-fault .ensures) (c .before .reference-fault .ensures) refl (c .before .before .before .if1 .left) (c .if2 .taken)) (c .if2 .taken)
+
+name-record-requires : tie.Need-name-record-requires
+name-record-requires c κs = search needs
+
+reference-fault-requires-2 : tie.Need-reference-fault-requires-2
+reference-fault-requires-2 c κs = search needs
+
+returns-3 : tie.Need-returns-3
+returns-3 c = body-refused _ _ _ _ _ _ _ (body-second _ _ _ _ _ _ _ (c .before .before .before .before .before .before .before .before .before .number-fault .ensures) (c .before .before .before .before .before .before .reference-fault .ensures) (rw (c .before .before .before .name-record .ensures) at (c .before .reference-fault2 .ensures)) (c .before .before .before .before .before .before .before .before .if1 .left) (c .before .before .before .before .before .if2 .left) (c .if3 .taken)) (c .if3 .taken)
+
+name-record-requires-2 : tie.Need-name-record-requires-2
+name-record-requires-2 c κs = search needs
+
+returns-4 : tie.Need-returns-4
+returns-4 c = record { fault = c .before .before .before .before .before .before .before .before .before .before .before .before .empty-fault .ensures ∙ body-last _ _ _ _ _ _ _ (c .before .before .before .before .before .before .before .before .before .before .before .number-fault .ensures) (c .before .before .before .before .before .before .before .before .reference-fault .ensures) (rw (c .before .before .before .before .before .name-record .ensures) at (c .before .before .before .reference-fault2 .ensures)) (c .before .before .before .before .before .before .before .before .before .before .if1 .left) (c .before .before .before .before .before .before .before .if2 .left) (c .before .before .if3 .left); records = λ e. rw (c .before .before .before .before .before .name-record .ensures) at (c .name-record2 .ensures) }
+
+pub body-fault-spec : {M : Type 1} → statement M
+body-fault-spec =
+    tie.close
+    (tie.spec
+    empty-fault-requires
+    number-fault-requires
+    returns
+    reference-fault-requires
+    returns-2
+    name-record-requires
+    reference-fault-requires-2
+    returns-3
+    name-record-requires-2
+    returns-4)

@@ -1,0 +1,46 @@
+use mathlib.Core.Path.{sym}
+use Rattle.tbox.proofs.Faults.{name-none, name-past, name-at}
+use borrow.Author.Needs.{needs}
+use Rattle.tbox.proofs.records.name_record.Statement.{statement}
+use Rattle.tbox.proofs.records.name_record.Tie as tie
+
+returns : tie.Need-returns
+returns c = sym (name-none _ _ _ (c .if1 .taken))
+
+returns-2 : tie.Need-returns-2
+returns-2 c = sym (name-past _ _ _ _ (c .before .if1 .left) (c .if2 .taken))
+
+mul-entry-of : tie.Need-mul-entry-of
+mul-entry-of c = search needs
+
+element-copy-out-entry-of : tie.Need-element-copy-out-entry-of
+element-copy-out-entry-of c = search needs
+
+entry-of-requires : tie.Need-entry-of-requires
+entry-of-requires c κs = search needs
+
+word-of-requires : tie.Need-word-of-requires
+word-of-requires c κs = search needs
+
+mul-table : tie.Need-mul-table
+mul-table c = search needs
+
+element-write-table : tie.Need-element-write-table
+element-write-table c = search needs
+
+returns-3 : tie.Need-returns-3
+returns-3 c = name-at _ _ _ _ _ _ (c .before .before .before .before .if1 .left) (c .before .before .before .if2 .left) (c .before .entry-of .ensures) (c .word-of .ensures)
+
+pub name-record-spec : {M : Type 1} → statement M
+name-record-spec =
+    tie.close
+    (tie.spec
+    returns
+    returns-2
+    mul-entry-of
+    element-copy-out-entry-of
+    entry-of-requires
+    word-of-requires
+    mul-table
+    element-write-table
+    returns-3)

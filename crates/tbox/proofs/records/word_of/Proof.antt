@@ -1,0 +1,66 @@
+use native.Mathlib.Omega.{arith}
+use Rattle.tbox.proofs.Entries.{word-entry}
+use borrow.Author.Needs.{needs}
+use Rattle.tbox.proofs.records.word_of.Statement.{statement}
+use Rattle.tbox.proofs.records.word_of.Tie as tie
+
+flag-of-requires : tie.Need-flag-of-requires
+flag-of-requires c κs = search needs
+
+flag-of-requires-2 : tie.Need-flag-of-requires-2
+flag-of-requires-2 c κs = search needs
+
+mul-flags : tie.Need-mul-flags
+mul-flags c = search needs
+
+add-flags : tie.Need-add-flags
+add-flags c = search needs
+
+cast-result : tie.Need-cast-result
+cast-result c = search needs
+
+cast-result-2 : tie.Need-cast-result-2
+cast-result-2 c = search needs
+
+mul-result : tie.Need-mul-result
+mul-result c = search needs
+
+add-result : tie.Need-add-result
+add-result c = search needs
+
+cast-result-3 : tie.Need-cast-result-3
+cast-result-3 c = search needs
+
+mul-result-2 : tie.Need-mul-result-2
+mul-result-2 c = search needs
+
+add-result-2 : tie.Need-add-result-2
+add-result-2 c = search needs
+
+mul-result-3 : tie.Need-mul-result-3
+mul-result-3 c = search needs
+
+add-result-3 : tie.Need-add-result-3
+add-result-3 c = search needs
+
+returns : tie.Need-returns
+returns c = word-entry (c .before .before .before .before .before .args .e) _ _ (omega arith) (omega arith) (omega arith) (c .before .before .before .before .flag-of .ensures .0) (c .before .before .before .flag-of2 .ensures .0) (c .before .before .before .before .flag-of .ensures .1) (c .before .before .before .flag-of2 .ensures .1)
+
+pub word-of-spec : {M : Type 1} → statement M
+word-of-spec =
+    tie.close
+    (tie.spec
+    flag-of-requires
+    flag-of-requires-2
+    mul-flags
+    add-flags
+    cast-result
+    cast-result-2
+    mul-result
+    add-result
+    cast-result-3
+    mul-result-2
+    add-result-2
+    mul-result-3
+    add-result-3
+    returns)

@@ -1,0 +1,72 @@
+-- Worked sheets (01, "Sheets to try"): what read and list marks answer for each, and what list marks leaves. Proved in
+-- proofs/Worked.antt.
+use Prim.Native.Nat.{ℕ}
+use mathlib.Core.List.{List, [], _∷_, _++_}
+use lib.ListN.{replicate}
+use Rattle.tbox.specs.Reading.{readKb}
+use Rattle.tbox.specs.Answers.{limit, readSays, listSays, listLeaves}
+
+-- a sheet, what read says of it (0, T, L, c, or a refusal's number and place), a list lent to list marks, what that call says
+-- (0, c, or the refusal) and what it leaves in the list
+pub record Row : Type 0 where
+  pub sheet : List ℕ
+  pub read : List ℕ
+  pub lent : List ℕ
+  pub listed : List ℕ
+  pub left : List ℕ
+
+abbrev row : List ℕ → List ℕ → List ℕ → List ℕ → List ℕ → Row
+row s r l d w = record { sheet = s; read = r; lent = l; listed = d; left = w }
+
+-- the row as the definitions have it
+abbrev pub answered : Row → Row
+answered r =
+    row (r .sheet) (readSays (readKb limit (r .sheet))) (r .lent) (listSays (readKb limit (r .sheet)) (r .lent))
+    (listLeaves (readKb limit (r .sheet)) (r .lent))
+
+abbrev s1 : List ℕ
+s1 = 0x01 ∷ 0x10 ∷ 0x00 ∷ 0x03 ∷ 0x00 ∷ 0x07 ∷ 0x01 ∷ 0x02 ∷ 0x20 ∷ 0x00 ∷ 0x03 ∷ []
+
+abbrev s2 : List ℕ
+s2 = s1 ++ (0x02 ∷ 0x20 ∷ 0x02 ∷ 0x05 ∷ [])
+
+abbrev s3 : List ℕ
+s3 = s1 ++ (0x11 ∷ 0x00 ∷ 0x02 ∷ 0x08 ∷ 0x05 ∷ 0x06 ∷ 0x20 ∷ 0x02 ∷ 0x07 ∷ [])
+
+abbrev s4 : List ℕ
+s4 = 0x10 ∷ 0x00 ∷ 0x01 ∷ 0x08 ∷ 0x00 ∷ 0x01 ∷ 0x02 ∷ 0x20 ∷ 0x02 ∷ 0x03 ∷ []
+
+abbrev s5 : List ℕ
+s5 = 0x01 ∷ 0x03 ∷ 0x00 ∷ 0x10 ∷ 0x00 ∷ 0x08 ∷ 0x02 ∷ 0x00 ∷ 0x06 ∷ 0x01 ∷ 0x03 ∷ 0x20 ∷ 0x00 ∷ 0x04 ∷ []
+
+abbrev s6 : List ℕ
+s6 = 0x03 ∷ 0x00 ∷ 0x10 ∷ 0x00 ∷ 0x04 ∷ 0x00 ∷ 0x07 ∷ 0x01 ∷ 0x02 ∷ 0x20 ∷ 0x00 ∷ 0x03 ∷ []
+
+-- so many bytes that are there before
+abbrev full : ℕ → List ℕ
+full n = replicate n 0xff
+
+-- the parts of 03 0B: twelve names, three bytes each
+abbrev names12 : List ℕ
+names12 =
+    0 ∷ 0 ∷ 0 ∷ 0 ∷ 1 ∷ 0 ∷ 0 ∷ 2 ∷ 0 ∷ 0 ∷ 3 ∷ 0 ∷ 0 ∷ 4 ∷ 0 ∷ 0 ∷ 5 ∷ 0 ∷
+    0 ∷ 6 ∷ 0 ∷ 0 ∷ 7 ∷ 0 ∷ 0 ∷ 8 ∷ 0 ∷ 0 ∷ 9 ∷ 0 ∷ 0 ∷ 10 ∷ 0 ∷ 0 ∷ 11 ∷ 0 ∷ []
+
+abbrev pub table : List Row
+table =
+    row [] (0 ∷ 0 ∷ 0 ∷ 0 ∷ []) (full 2) (0 ∷ 0 ∷ []) (full 2) ∷
+    row s1 (0 ∷ 1 ∷ 1 ∷ 2 ∷ []) (full 8) (0 ∷ 2 ∷ []) (0 ∷ 0 ∷ 0 ∷ 2 ∷ 3 ∷ 0 ∷ full 2) ∷
+    row s1 (0 ∷ 1 ∷ 1 ∷ 2 ∷ []) (full 5) (12 ∷ 0 ∷ []) (full 5) ∷
+    row s2 (0 ∷ 1 ∷ 1 ∷ 2 ∷ []) (full 8) (0 ∷ 2 ∷ []) (0 ∷ 0 ∷ 0 ∷ 2 ∷ 3 ∷ 0 ∷ full 2) ∷
+    row s3 (0 ∷ 1 ∷ 1 ∷ 3 ∷ []) (full 11) (0 ∷ 3 ∷ []) (0 ∷ 0 ∷ 0 ∷ 2 ∷ 3 ∷ 0 ∷ 3 ∷ 7 ∷ 0 ∷ full 2) ∷
+    row s4 (0 ∷ 0 ∷ 1 ∷ 1 ∷ []) (full 5) (0 ∷ 1 ∷ []) (2 ∷ 2 ∷ 1 ∷ full 2) ∷
+    row s5 (0 ∷ 1 ∷ 1 ∷ 2 ∷ []) (full 8) (0 ∷ 2 ∷ []) (0 ∷ 0 ∷ 0 ∷ 3 ∷ 3 ∷ 0 ∷ full 2) ∷
+    row s6 (0 ∷ 1 ∷ 1 ∷ 3 ∷ []) (full 11) (0 ∷ 3 ∷ []) (0 ∷ 0 ∷ 0 ∷ 2 ∷ 3 ∷ 0 ∷ 1 ∷ 2 ∷ 0 ∷ full 2) ∷
+    row (0x03 ∷ 0x00 ∷ []) (0 ∷ 1 ∷ 0 ∷ 1 ∷ []) (full 5) (0 ∷ 1 ∷ []) (0 ∷ 0 ∷ 0 ∷ full 2) ∷
+    row (0x03 ∷ 0x0b ∷ []) (0 ∷ 12 ∷ 0 ∷ 12 ∷ []) (full 38) (0 ∷ 12 ∷ []) (names12 ++ full 2) ∷
+    row (0x03 ∷ 0x0c ∷ []) (4 ∷ 0 ∷ []) (full 2) (4 ∷ 0 ∷ []) (full 2) ∷
+    row (0x03 ∷ 0x0b ∷ 0x10 ∷ 0x00 ∷ []) (9 ∷ 0 ∷ []) (full 2) (9 ∷ 0 ∷ []) (full 2) ∷
+    row (0x04 ∷ 0x00 ∷ []) (5 ∷ 0 ∷ []) (full 2) (5 ∷ 0 ∷ []) (full 2) ∷
+    row (0x03 ∷ 0x00 ∷ 0x04 ∷ 0x00 ∷ 0x05 ∷ 0x01 ∷ 0x01 ∷ []) (7 ∷ 4 ∷ []) (full 2) (7 ∷ 4 ∷ []) (full 2) ∷
+    row (0x10 ∷ 0x00 ∷ 0x12 ∷ 0x00 ∷ 0x01 ∷ 0x07 ∷ 0x01 ∷ 0x02 ∷ []) (8 ∷ 5 ∷ []) (full 2) (8 ∷ 5 ∷ []) (full 2) ∷
+    []

@@ -1,0 +1,12 @@
+pub mod Shapes
+pub mod Scan
+pub mod Concepts
+pub mod Normal
+pub mod Flatten
+pub mod Truth
+pub mod Reading
+pub mod Answers
+pub mod Examples
+pub mod Bounds
+pub mod Order
+pub mod Tables

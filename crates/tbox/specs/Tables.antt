@@ -1,0 +1,246 @@
+-- The code's tables read as the definitions: records as words of 32 bits, parts as words of 16, sets of numbers as words of 64.
+use Prim.Native.Nat.{ℕ, suc, _+_, _*_, _/_, _%_, _^_, _≤_, _<_, min}
+use mathlib.Core.Path.{_≡_}
+use mathlib.Core.Bool.{Bool, true, false, cond}
+use mathlib.Core.Option.{Option, none, some}
+use mathlib.Core.List.{List, [], _∷_, _++_, map}
+use lib.ListN.{length, getD, take, set}
+use lib.Dec.{eqb, ltb}
+use Rattle.bitset.specs.Bits.{wordAt}
+use Rattle.tbox.specs.declared.records.Shape.{Shape}
+use Rattle.tbox.specs.declared.records.Entry.{Entry}
+use Rattle.tbox.specs.declared.records.Progress.{Progress}
+use Rattle.tbox.specs.declared.records.Stepped.{Stepped}
+use Rattle.tbox.specs.declared.records.Scanned.{Scanned}
+use Rattle.tbox.specs.declared.truth.Valued.{Valued}
+use Rattle.tbox.specs.declared.Admitted.{Admitted}
+use Rattle.tbox.specs.declared.base.Base.{Base}
+use Rattle.tbox.specs.declared.base.Loaded.{Loaded}
+use Rattle.tbox.specs.Scan.{State, Scanning, refused, whole, recordAt, name, bodyFault, namesAfter, rolesAfter, recordFault, recordAfter}
+use Rattle.tbox.specs.Concepts.{Role, Concept, conceptAt, roleAt, nodesOf, axiomsOf}
+use Rattle.tbox.specs.Normal.{Tag, Nf, plain, negated}
+use Rattle.tbox.specs.Flatten.{Filler, everything, nothing, part, Part, nameP, freshP, existsP, forallP, Flat, atom, Walked, walk, Pending, partAt}
+use Rattle.tbox.specs.Order.{through, flatsThrough, turnOf}
+use Rattle.tbox.specs.Truth.{eval, kbOn, roleOn}
+use Rattle.tbox.specs.Reading.{Kb, Reading, refusal, kb, flatsOf, partsOf, readKb}
+use Rattle.tbox.specs.Answers.{oddNo}
+use Rattle.bitset.specs.Bits.{bit}
+
+-- a record's word: kind, first and second byte, named, vacuous
+abbrev pub flag : Bool → ℕ
+flag b = cond b 1 0
+
+unfoldable pub entryOf : ℕ → Entry
+entryOf w =
+    record {
+      kind = w % 256;
+      first = w / 256 % 256;
+      second = w / 65536 % 256;
+      named = eqb (w / 16777216 % 2) 1;
+      vacuous = eqb (w / 33554432 % 2) 1;
+    }
+
+-- the records that are counted
+unfoldable pub seen : List ℕ → ℕ → List Entry
+seen table n = map entryOf (take n table)
+
+abbrev pub view : List ℕ → Progress → State
+view table p = record { at = p .at; records = seen table (p .count); names = p .names; roles = p .roles }
+
+-- the body of a record: its fault; without one, the records with those named that it names
+pub record Body (table : List ℕ) (n : ℕ) (s : Shape) (a b : ℕ) (after : List ℕ) (f : ℕ) : Type 0 where
+  pub fault : f ≡ bodyFault (seen table n) s a b
+  pub records : f ≡ 0 → seen after n ≡ name (name (seen table n) (s .first) a) (s .second) b
+
+-- a record more: the table and the progress after it
+pub record Appended (table : List ℕ) (p : Progress) (e : Entry) (body : ℕ) (after : List ℕ) (q : Progress) : Type 0 where
+  pub records : seen after (q .count) ≡ seen table (p .count) ++ (e ∷ [])
+  pub count : q .count ≡ p .count + 1
+  pub at : q .at ≡ p .at + 1 + body
+  pub names : q .names ≡ namesAfter (p .names) (e .kind) (e .first)
+  pub roles : q .roles ≡ rolesAfter (p .roles) (e .kind) (e .first)
+
+-- one record: its fault; without one, the table and the progress after it
+pub record Took (sheet table : List ℕ) (p : Progress) (after : List ℕ) (r : Stepped) : Type 0 where
+  pub fault : r .fault ≡ recordFault sheet (view table p)
+  pub state : r .fault ≡ 0 → view after (r .progress) ≡ recordAfter sheet (view table p)
+  pub count : r .fault ≡ 0 → r .progress .count ≡ p .count + 1
+  pub within : r .fault ≡ 0 → r .progress .at ≤ length sheet
+
+abbrev pub scanningOf : List ℕ → Scanned → Scanning
+scanningOf table r = cond (eqb (r .fault) 0) (whole (view table (r .progress))) (refused (r .fault) (r .place))
+
+-- the concept, the role and the normal form of record r, of those below a number
+unfoldable pub conceptBelow : List Entry → ℕ → ℕ → Concept
+conceptBelow es n r = conceptAt (take n (nodesOf es)) r
+
+unfoldable pub roleBelow : List Entry → ℕ → ℕ → Role
+roleBelow es n r = roleAt (take n (nodesOf es)) r
+
+abbrev pub nfBelow : Bool → List Entry → ℕ → ℕ → Nf
+nfBelow true es n r = negated (conceptBelow es n r)
+nfBelow false es n r = plain (conceptBelow es n r)
+
+-- a filler as a number: a name's, 256 everything, 257 nothing, 258 neither
+abbrev pub atomNo : Option Filler → ℕ
+atomNo (some (part t)) = t
+atomNo (some everything) = 256
+atomNo (some nothing) = 257
+atomNo none = 258
+
+-- f is the number of a filler, where a name's number is a byte
+pub record AtomIs (o : Option Filler) (f : ℕ) : Type 0 where
+  pub is : f ≡ atomNo o
+  pub byte : (t : ℕ) → o ≡ some (part t) → t < 256
+
+-- a part's word: kind, odd, number
+abbrev pub partWord : ℕ → ℕ → ℕ → ℕ
+partWord kind odd number = kind + 4 * odd + 8 * number
+
+-- the filler of restriction part k
+abbrev pub fillerFor : ℕ → Option Filler → Filler
+fillerFor k (some a) = a
+fillerFor k none = part (suc k)
+
+-- the role and the filler of a restriction are those of its record
+pub record Restricts (es : List Entry) (k : ℕ) (g : Tag) (u : Role) (f : Filler) : Type 0 where
+  pub byte : g .source < 256
+  pub written : g .filler ≡ recordAt es (g .source) .second
+  pub role : u ≡ roleBelow es (g .source) (recordAt es (g .source) .first)
+  pub filler : f ≡ fillerFor k (atom (nfBelow (g .odd) es (g .source) (recordAt es (g .source) .second)))
+
+-- the word x stands for part k
+abbrev pub Stands : List Entry → ℕ → ℕ → Part → Type 0
+Stands es k x (nameP t) = (x ≡ partWord 0 0 t) × (t < 256)
+Stands es k x (freshP g c) = (x ≡ partWord 1 (oddNo g) (g .filler)) × (g .filler < 256) × (c ≡ nfBelow (g .odd) es (length es) (g .filler))
+Stands es k x (existsP g u f) = (x ≡ partWord 2 (oddNo g) (g .source)) × Restricts es k g u f
+Stands es k x (forallP g u f) = (x ≡ partWord 3 (oddNo g) (g .source)) × Restricts es k g u f
+
+-- the words of a table stand for a list of parts
+abbrev pub Stood : List Entry → List ℕ → List Part → Type 0
+Stood es table ps = (k : ℕ) → k < length ps → Stands es k (getD table k 0) (partAt ps k)
+
+-- n words of a table stand for a list of parts; above the limit only n says so, as limit + 1
+pub record Held (limit : ℕ) (es : List Entry) (table : List ℕ) (n : ℕ) (ps : List Part) : Type 0 where
+  pub count : n ≡ min (length ps) (limit + 1)
+  pub stand : length ps ≤ limit → Stood es table ps
+
+-- what going through a concept adds to the parts that a table stands for
+abbrev pub Adds : ℕ → List Entry → Nf → List ℕ → ℕ → List ℕ → ℕ → Type 0
+Adds limit es c before n after m = (so : List Part) → Held limit es before n so → Held limit es after m (so ++ walk c so .parts)
+
+-- a word put at the end of a table of parts
+pub record Pushed (limit : ℕ) (before : List ℕ) (n word : ℕ) (after : List ℕ) (m : ℕ) : Type 0 where
+  pub count : m ≡ cond (ltb n limit) (n + 1) (limit + 1)
+  pub table : after ≡ cond (ltb n limit) (set before n word) before
+  pub room : n < limit → n < length before
+
+-- a restriction met: the word of its part and, where its filler needs a fresh name, that of the next
+pub record Met (limit : ℕ) (before : List ℕ) (n first second atom : ℕ) (after : List ℕ) (m : ℕ) : Type 0 where
+  pub alone : (atom ≡ 258 → ⊥) → Pushed limit before n first after m
+  pub both : atom ≡ 258 → (t : List ℕ) × (k : ℕ) × Pushed limit before n first t k × Pushed limit t k second after m
+
+-- what going through some of the queue adds to the parts that a table stands for
+abbrev pub AddsAll : ℕ → List Entry → List Pending → List ℕ → ℕ → List ℕ → ℕ → Type 0
+AddsAll limit es q before n after m = (so : List Part) → Held limit es before n so → Held limit es after m (so ++ through q so)
+
+-- the same for what a part with a given word puts on the queue
+abbrev pub AddsTurn : ℕ → List Entry → ℕ → List ℕ → ℕ → List ℕ → ℕ → Type 0
+AddsTurn limit es word before n after m = (k : ℕ) (p : Part) → Stands es k word p → AddsAll limit es (turnOf k p) before n after m
+
+-- what going through a concept makes of word w, when k parts are there
+pub record Values (c : Nf) (so : List Part) (w k : ℕ) (r : Valued) : Type 0 where
+  pub word : r .word ≡ wordAt (λ A. eval (bit A) (walk c so .flat)) w
+  pub next : r .next ≡ k + length (walk c so .parts)
+
+abbrev pub ValuesAt : Nf → ℕ → ℕ → Valued → Type 0
+ValuesAt c k w r = (so : List Part) → length so ≡ k → Values c so w k r
+
+-- what going through some of the queue makes of word w: the numbers of labels on which all its flattened axioms hold
+pub record ValuesAll (q : List Pending) (so : List Part) (w k : ℕ) (r : Valued) : Type 0 where
+  pub word : r .word ≡ wordAt (kbOn (flatsThrough q so)) w
+  pub next : r .next ≡ k + length (through q so)
+
+abbrev pub ValuesAllAt : List Pending → ℕ → ℕ → Valued → Type 0
+ValuesAllAt q k w r = (so : List Part) → length so ≡ k → ValuesAll q so w k r
+
+-- no more parts than a byte numbers
+abbrev pub RoomAll : List Pending → ℕ → Type 0
+RoomAll q k = (so : List Part) → length so ≡ k → k + length (through q so) ≤ 255
+
+abbrev pub Room : Nf → ℕ → Type 0
+Room c k = (so : List Part) → length so ≡ k → k + length (walk c so .parts) ≤ 255
+
+-- a part's three bytes off its word, and those of a table of words
+unfoldable pub slotBytes : ℕ → List ℕ
+slotBytes x = x % 4 ∷ x / 8 % 256 ∷ x / 4 % 2 ∷ []
+
+unfoldable pub slotsOf : List ℕ → List ℕ
+slotsOf [] = []
+slotsOf (x ∷ xs) = slotBytes x ++ slotsOf xs
+
+-- the knowledge base of a table of records
+abbrev pub kbIn : List ℕ → ℕ → ℕ → ℕ → Kb
+kbIn table n names roles = record { names = names; roles = roles; axioms = axiomsOf (nodesOf (seen table n)) }
+
+abbrev pub kbAdmitted : List ℕ → Admitted → Kb
+kbAdmitted table a = kbIn table (a .count) (a .names) (a .roles)
+
+abbrev pub foundIn : ℕ → ℕ → Progress → ℕ → Admitted
+foundIn f place p c = record { fault = f; place = place; count = p .count; names = p .names; roles = p .roles; parts = c }
+
+-- a sheet that is read, or refused: fault 0 or the refusal
+pub record Admits (limit : ℕ) (sheet table parts′ : List ℕ) (r : Admitted) : Type 0 where
+  pub refused : (r .fault ≡ 0 → ⊥) → readKb limit sheet ≡ refusal (r .fault) (r .place)
+  pub read : r .fault ≡ 0 → readKb limit sheet ≡ kb (kbAdmitted table r)
+  pub records : r .count ≤ 255
+  pub held : r .fault ≡ 0 → Held limit (seen table (r .count)) parts′ (r .parts) (partsOf (kbAdmitted table r))
+  pub small : r .fault ≡ 0 → r .parts + r .roles ≤ limit
+
+-- The promise of the reader to the layers above.
+
+-- a part's kind: 0 name, 1 fresh, 2 existential, 3 universal
+unfoldable pub kindOf : Part → ℕ
+kindOf (nameP t) = 0
+kindOf (freshP g c) = 1
+kindOf (existsP g u f) = 2
+kindOf (forallP g u f) = 3
+
+-- a filler: a part's number, 254 everything, 255 nothing
+unfoldable pub fillerNo : Filler → ℕ
+fillerNo (part k) = k
+fillerNo everything = 254
+fillerNo nothing = 255
+
+-- the same off `atomNo`, for part i
+abbrev pub fillerCode : ℕ → ℕ → ℕ
+fillerCode f i = cond (eqb f 256) 254 (cond (eqb f 257) 255 (cond (eqb f 258) (i + 1) (f % 256)))
+
+-- a restriction's filler; 0 for a name
+unfoldable pub fillerOf : Part → ℕ
+fillerOf (nameP t) = 0
+fillerOf (freshP g c) = 0
+fillerOf (existsP g u f) = fillerNo f
+fillerOf (forallP g u f) = fillerNo f
+
+-- the role sets on which a restriction's role expression holds; none for a name
+unfoldable pub roleHolds : Part → ℕ → Bool
+roleHolds (nameP t) R = false
+roleHolds (freshP g c) R = false
+roleHolds (existsP g u f) R = roleOn u R
+roleHolds (forallP g u f) R = roleOn u R
+
+-- b is the flattened knowledge base k
+pub record Flattened (k : Kb) (b : Base) : Type 0 where
+  pub names : b .names ≡ k .names
+  pub roles : b .roles ≡ k .roles
+  pub parts : b .parts ≡ length (partsOf k)
+  pub small : b .parts + b .roles ≤ 12
+  pub kind : (i : ℕ) → i < b .parts → getD (b .kind) i 0 ≡ kindOf (partAt (partsOf k) i)
+  pub filler : (i : ℕ) → i < b .parts → getD (b .filler) i 0 ≡ fillerOf (partAt (partsOf k) i)
+  pub role : (i w : ℕ) → i < b .parts → w < 4 → getD (b .role) (4 * i + w) 0 ≡ wordAt (roleHolds (partAt (partsOf k) i)) w
+  pub good : (w : ℕ) → 64 * w < 2 ^ b .parts → getD (b .good) w 0 ≡ wordAt (kbOn (flatsOf k)) w
+
+pub record Loads (sheet : List ℕ) (r : Loaded) : Type 0 where
+  pub refused : (r .fault ≡ 0 → ⊥) → readKb 12 sheet ≡ refusal (r .fault) (r .place)
+  pub read : r .fault ≡ 0 → (k : Kb) × (readKb 12 sheet ≡ kb k) × Flattened k (r .base)

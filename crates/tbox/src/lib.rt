@@ -1,0 +1,131 @@
+// Knowledge bases in ALCIb: reading a sheet, listing its parts, and the flattened knowledge base for the layers above.
+ghost use mathlib.Core.Path.{_≡_};
+ghost use Prim.Native.Nat.{_+_, _*_, _≤_};
+ghost use mathlib.Core.List.{_++_};
+ghost use lib.ListN.{length, take, drop};
+ghost use Rattle.tbox.specs.Reading.{readKb};
+ghost use Rattle.tbox.specs.Answers.{limit, readNumbers, readSays, Lists};
+ghost use Rattle.tbox.specs.Tables.{foundIn, Admits, slotBytes, slotsOf};
+
+pub mod base;
+pub mod parts;
+pub mod records;
+pub mod truth;
+
+// What reading a sheet found: a fault and its place, or fault 0 and the counts of records, names, roles and parts.
+pub struct Admitted {
+    pub fault: u8,
+    pub place: usize,
+    pub count: usize,
+    pub names: usize,
+    pub roles: usize,
+    pub parts: usize,
+}
+
+fn found(fault: u8, place: usize, p: records::Progress, parts: usize) -> Admitted
+    ensures { λ r. ⌜ r ≡ foundIn fault place p parts ⌝ }
+{
+    Admitted {
+        fault: fault,
+        place: place,
+        count: p.count,
+        names: p.names,
+        roles: p.roles,
+        parts: parts,
+    }
+}
+
+// Reads a sheet into a table of records and a table of parts; parts and roles together are at most the limit.
+pub fn admit(sheet: &[u8], table: &mut [u32; 255], parts: &mut [u16; 20], limit: usize) -> Admitted
+    requires { ⌜ limit ≤ 20 ⌝ }
+    ensures { λ r. ⌜ Admits limit (now (sheet .entry)) (now (table .exit)) (now (parts .exit)) r ⌝ }
+{
+    let s = records::scan(sheet, table);
+    let p = s.progress;
+    if s.fault != 0 {
+        return found(s.fault, s.place, p, 0);
+    }
+    let c = parts::flatten(table, p.count, p.names, parts, limit);
+    if limit < c {
+        return found(9, 0, p, c);
+    }
+    if limit - c < p.roles {
+        return found(9, 0, p, c);
+    }
+    found(0, 0, p, c)
+}
+
+pub enum ReadAnswer {
+    // A refusal's number and place.
+    Refused(u8, usize),
+    // The numbers of names, roles and parts; document 01's T, L and c.
+    Read(usize, usize, usize),
+}
+
+pub fn read(sheet: &[u8]) -> ReadAnswer
+    ensures { λ r. ⌜ readNumbers r ≡ readSays (readKb limit (now (sheet .entry))) ⌝ }
+{
+    let mut table = [0u32; 255];
+    let mut parts = [0u16; 20];
+    let a = admit(sheet, &mut table, &mut parts, 12);
+    if a.fault != 0 {
+        return ReadAnswer::Refused(a.fault, a.place);
+    }
+    ReadAnswer::Read(a.names, a.roles, a.parts)
+}
+
+pub enum ListAnswer {
+    // A refusal's number and place.
+    Refused(u8, usize),
+    // The number of parts.
+    Listed(usize),
+}
+
+// Three bytes for each part: its kind, its number, and whether it is read under an odd number of nots.
+pub fn list_marks(sheet: &[u8], list: &mut [u8]) -> ListAnswer
+    ensures { λ r. ⌜ Lists (readKb limit (now (sheet .entry))) (now (list .entry)) (now (list .exit)) r ⌝ }
+{
+    let mut table = [0u32; 255];
+    let mut parts = [0u16; 20];
+    let a = admit(sheet, &mut table, &mut parts, 12);
+    if a.fault != 0 {
+        return ListAnswer::Refused(a.fault, a.place);
+    }
+    if list.len() < 3 * a.parts {
+        return ListAnswer::Refused(12, 0);
+    }
+    write_parts(&parts, a.parts, list);
+    ListAnswer::Listed(a.parts)
+}
+
+// The three bytes of one part.
+fn write_part(slot: &mut [u8], word: u16)
+    requires { ⌜ length (now slot) ≡ 3 ⌝ }
+    ensures { λ _. ⌜ now (slot .exit) ≡ slotBytes word ⌝ }
+{
+    slot[0] = (word % 4) as u8;
+    slot[1] = (word / 8 % 256) as u8;
+    slot[2] = (word / 4 % 2) as u8;
+}
+
+// The slots of c parts, from the front; the bytes after them stay.
+fn write_slots(parts: &[u16], c: usize, list: &mut [u8])
+    requires { ⌜ (c ≤ length (now parts)) × (3 * c ≤ length (now list)) ⌝ }
+    ensures { λ _. ⌜ now (list .exit) ≡ slotsOf (take c (now (parts .entry))) ++ drop (3 * c) (now (list .entry)) ⌝ }
+{
+    let mut i: usize = 0;
+    while i < c {
+        let from = 3 * i;
+        let to = from + 3;
+        write_part(&mut list[from..to], parts[i]);
+        i = i + 1;
+    }
+}
+
+// The same off the table of parts, which has room for 20.
+fn write_parts(parts: &[u16; 20], c: usize, list: &mut [u8])
+    requires { ⌜ (c ≤ 20) × (3 * c ≤ length (now list)) ⌝ }
+    ensures { λ _. ⌜ (length (now (parts .entry)) ≡ 20) × (now (list .exit) ≡ slotsOf (take c (now (parts .entry))) ++ drop (3 * c) (now (list .entry))) ⌝ }
+{
+    write_slots(parts, c, list);
+}

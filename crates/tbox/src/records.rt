@@ -1,0 +1,427 @@
+// Reads a sheet record by record into a table of words, one a record, or finds its first fault.
+ghost use mathlib.Core.Path.{_≡_};
+ghost use Prim.Native.Nat.{_+_, _<_, _≤_, _^_, max};
+ghost use lib.ListN.{length};
+ghost use Rattle.tbox.specs.Shapes.{shaped, shapeOf, isLeaf, isRestriction};
+ghost use Rattle.tbox.specs.Scan.{recordAt, orElse, numberFault, sortFault, againFault, referenceFault, name, emptyFault, bodyFault, vacuousOf, namesAfter, rolesAfter, bodyByte, scanSheet};
+ghost use Rattle.tbox.specs.Tables.{entryOf, seen, view, flag, Body, Appended, Took, scanningOf};
+
+// What a kind byte decides. Sorts: 0 none, 1 concept, 2 role, 3 axiom.
+pub struct Shape {
+    // The record's own sort; 0: the kind is unknown.
+    pub sort: u8,
+    // The number of bytes after the kind byte.
+    pub body: u8,
+    // The number in the body is below this; 0: the body has no number.
+    pub limit: u8,
+    // The sorts that the references must have; 0: no such reference.
+    pub first: u8,
+    pub second: u8,
+}
+
+// A record: its kind and body bytes, whether a later record names it, and whether it is a role that holds on the empty
+// role set.
+pub struct Entry {
+    pub kind: u8,
+    pub first: u8,
+    pub second: u8,
+    pub named: bool,
+    pub vacuous: bool,
+}
+
+// How far reading has come: records, the next one's place, and one more than the largest number of a name and of a role.
+pub struct Progress {
+    pub count: usize,
+    pub at: usize,
+    pub names: usize,
+    pub roles: usize,
+}
+
+pub struct Stepped {
+    pub fault: u8,
+    pub progress: Progress,
+}
+
+pub struct Scanned {
+    pub fault: u8,
+    pub place: usize,
+    pub progress: Progress,
+}
+
+fn new_shape(sort: u8, body: u8, limit: u8, first: u8, second: u8) -> Shape
+    ensures { λ r. ⌜ r ≡ shaped sort body limit first second ⌝ }
+{
+    Shape {
+        sort: sort,
+        body: body,
+        limit: limit,
+        first: first,
+        second: second,
+    }
+}
+
+pub fn shape_of(kind: u8) -> Shape
+    ensures { λ r. ⌜ r ≡ shapeOf kind ⌝ }
+{
+    match kind {
+        0x01..=0x02 => new_shape(1, 0, 0, 0, 0),
+        0x03 => new_shape(1, 1, 12, 0, 0),
+        0x04 => new_shape(1, 1, 0, 1, 0),
+        0x05..=0x06 => new_shape(1, 2, 0, 1, 1),
+        0x07..=0x08 => new_shape(1, 2, 0, 2, 1),
+        0x10..=0x11 => new_shape(2, 1, 4, 0, 0),
+        0x12 => new_shape(2, 1, 0, 2, 0),
+        0x13..=0x14 => new_shape(2, 2, 0, 2, 2),
+        0x20 => new_shape(3, 2, 0, 1, 1),
+        _ => new_shape(0, 0, 0, 0, 0),
+    }
+}
+
+fn flag_of(b: bool) -> u32
+    ensures { λ r. ⌜ (r ≡ flag b) × (r ≤ 1) ⌝ }
+{
+    if b { 1 } else { 0 }
+}
+
+// A record's word: its kind, its two body bytes, named, vacuous.
+fn word_of(e: Entry) -> u32
+    ensures { λ r. ⌜ entryOf r ≡ e ⌝ }
+{
+    let flags = flag_of(e.named) + 2 * flag_of(e.vacuous);
+    (e.kind as u32) + 256 * (e.first as u32) + 65536 * (e.second as u32) + 16777216 * flags
+}
+
+fn entry_of(w: u32) -> Entry
+    ensures { λ r. ⌜ r ≡ entryOf w ⌝ }
+{
+    Entry {
+        kind: (w % 256) as u8,
+        first: (w / 256 % 256) as u8,
+        second: (w / 65536 % 256) as u8,
+        named: w / 16777216 % 2 == 1,
+        vacuous: w / 33554432 % 2 == 1,
+    }
+}
+
+// Record r, or a blank one where there is none.
+pub fn record_at(table: &[u32; 255], count: usize, r: u8) -> Entry
+    requires { ⌜ count ≤ 255 ⌝ }
+    ensures { λ e. ⌜ e ≡ recordAt (seen (now (table .entry)) count) r ⌝ }
+{
+    let i = r as usize;
+    if i < count {
+        return entry_of(table[i]);
+    }
+    Entry {
+        kind: 0,
+        first: 0,
+        second: 0,
+        named: false,
+        vacuous: false,
+    }
+}
+
+fn words(s: &[u32]) -> usize
+    ensures { λ r. ⌜ r ≡ length (now (s .entry)) ⌝ }
+{
+    s.len()
+}
+
+// Does nothing: of an array behind a reference the length is known only where it is lent as a slice.
+pub fn sized(table: &[u32; 255])
+    ensures { λ _. ⌜ length (now (table .entry)) ≡ 255 ⌝ }
+{
+    words(table);
+}
+
+fn is_leaf(s: Shape) -> bool
+    ensures { λ r. ⌜ r ≡ isLeaf s ⌝ }
+{
+    s.first == 0
+}
+
+fn is_restriction(s: Shape) -> bool
+    ensures { λ r. ⌜ r ≡ isRestriction s ⌝ }
+{
+    if s.sort == 1 {
+        return s.first == 2;
+    }
+    false
+}
+
+fn number_fault(s: Shape, a: u8) -> u8
+    ensures { λ f. ⌜ f ≡ numberFault s a ⌝ }
+{
+    if s.limit == 0 {
+        return 0;
+    }
+    if s.limit <= a {
+        return 4;
+    }
+    0
+}
+
+fn sort_fault(wanted: u8, found: u8) -> u8
+    ensures { λ f. ⌜ f ≡ sortFault wanted found ⌝ }
+{
+    if found == wanted { 0 } else { 6 }
+}
+
+fn again_fault(e: Entry) -> u8
+    ensures { λ f. ⌜ f ≡ againFault e ⌝ }
+{
+    if e.named {
+        let s = shape_of(e.kind);
+        if is_leaf(s) {
+            return 0;
+        }
+        return 7;
+    }
+    0
+}
+
+// The first fault of two, where 0 is none.
+fn or_else(f: u8, g: u8) -> u8
+    ensures { λ r. ⌜ r ≡ orElse f g ⌝ }
+{
+    if f == 0 { g } else { f }
+}
+
+// The fault of a reference to record r that must be of a sort; sort 0: there is no reference.
+fn reference_fault(table: &[u32; 255], count: usize, sort: u8, r: u8) -> u8
+    requires { ⌜ count ≤ 255 ⌝ }
+    ensures { λ f. ⌜ f ≡ referenceFault (seen (now (table .entry)) count) sort r ⌝ }
+{
+    if sort == 0 {
+        return 0;
+    }
+    if count <= (r as usize) {
+        return 5;
+    }
+    sized(table);
+    let e = record_at(table, count, r);
+    let s = shape_of(e.kind);
+    let f = sort_fault(sort, s.sort);
+    let g = again_fault(e);
+    or_else(f, g)
+}
+
+// Notes that record r is named, where the sort says that there is a reference.
+fn name_record(table: &mut [u32; 255], count: usize, sort: u8, r: u8)
+    requires { ⌜ count ≤ 255 ⌝ }
+    ensures { λ _. ⌜ seen (now (table .exit)) count ≡ name (seen (now (table .entry)) count) sort r ⌝ }
+{
+    if sort == 0 {
+        return;
+    }
+    let i = r as usize;
+    if count <= i {
+        return;
+    }
+    let e = entry_of(table[i]);
+    table[i] = word_of(Entry {
+        kind: e.kind,
+        first: e.first,
+        second: e.second,
+        named: true,
+        vacuous: e.vacuous,
+    });
+}
+
+fn empty_fault(table: &[u32; 255], count: usize, s: Shape, a: u8) -> u8
+    requires { ⌜ count ≤ 255 ⌝ }
+    ensures { λ f. ⌜ f ≡ emptyFault (seen (now (table .entry)) count) s a ⌝ }
+{
+    if is_restriction(s) {
+        let e = record_at(table, count, a);
+        if e.vacuous {
+            return 8;
+        }
+        return 0;
+    }
+    0
+}
+
+// The fault of a record's body. The second reference sees that the first has named its record.
+fn body_fault(table: &mut [u32; 255], count: usize, s: Shape, a: u8, b: u8) -> u8
+    requires { ⌜ count ≤ 255 ⌝ }
+    ensures { λ f. ⌜ Body (now (table .entry)) count s a b (now (table .exit)) f ⌝ }
+{
+    let last = empty_fault(table, count, s, a);
+    let f = number_fault(s, a);
+    if f != 0 {
+        return f;
+    }
+    let g = reference_fault(table, count, s.first, a);
+    if g != 0 {
+        return g;
+    }
+    name_record(table, count, s.first, a);
+    let h = reference_fault(table, count, s.second, b);
+    if h != 0 {
+        return h;
+    }
+    name_record(table, count, s.second, b);
+    last
+}
+
+// Whether a role record holds on the empty role set.
+fn vacuous_of(table: &[u32; 255], count: usize, k: u8, a: u8, b: u8) -> bool
+    requires { ⌜ count ≤ 255 ⌝ }
+    ensures { λ v. ⌜ v ≡ vacuousOf (seen (now (table .entry)) count) k a b ⌝ }
+{
+    let e = record_at(table, count, a);
+    let f = record_at(table, count, b);
+    if k == 0x12 {
+        return !e.vacuous;
+    }
+    if k == 0x13 {
+        if e.vacuous {
+            return f.vacuous;
+        }
+        return false;
+    }
+    if k == 0x14 {
+        if e.vacuous {
+            return true;
+        }
+        return f.vacuous;
+    }
+    false
+}
+
+fn larger(x: usize, n: u8) -> usize
+    ensures { λ r. ⌜ r ≡ max x (n + 1) ⌝ }
+{
+    let m = (n as usize) + 1;
+    if x < m { m } else { x }
+}
+
+fn names_after(n: usize, k: u8, a: u8) -> usize
+    ensures { λ r. ⌜ r ≡ namesAfter n k a ⌝ }
+{
+    if k == 0x03 {
+        return larger(n, a);
+    }
+    n
+}
+
+fn roles_after(n: usize, k: u8, a: u8) -> usize
+    ensures { λ r. ⌜ r ≡ rolesAfter n k a ⌝ }
+{
+    if k == 0x10 {
+        return larger(n, a);
+    }
+    if k == 0x11 {
+        return larger(n, a);
+    }
+    n
+}
+
+// Body byte i of the record at a place, 0 where the shape has none.
+fn body_byte(sheet: &[u8], at: usize, s: Shape, i: u8) -> u8
+    requires { ⌜ at + s .body < length (now sheet) ⌝ }
+    ensures { λ r. ⌜ r ≡ bodyByte (now (sheet .entry)) at s i ⌝ }
+{
+    if i <= s.body {
+        return sheet[at + (i as usize)];
+    }
+    0
+}
+
+// Puts a record, with a body of so many bytes, at the end of the table.
+fn append(table: &mut [u32; 255], p: Progress, e: Entry, body: u8) -> Progress
+    requires { ⌜ (p .count < 255) × (p .at < 2 ^ 63) ⌝ }
+    ensures { λ q. ⌜ Appended (now (table .entry)) p e body (now (table .exit)) q ⌝ }
+{
+    let n = p.count;
+    sized(table);
+    table[n] = word_of(e);
+    Progress {
+        count: n + 1,
+        at: p.at + 1 + (body as usize),
+        names: names_after(p.names, e.kind, e.first),
+        roles: roles_after(p.roles, e.kind, e.first),
+    }
+}
+
+// One record: its fault, or 0 and the progress after it.
+fn step(sheet: &[u8], table: &mut [u32; 255], p: Progress) -> Stepped
+    requires { ⌜ (p .count < 255) × (p .at < length (now sheet)) ⌝ }
+    ensures { λ r. ⌜ Took (now (sheet .entry)) (now (table .entry)) p (now (table .exit)) r ⌝ }
+{
+    let at = p.at;
+    let k = sheet[at];
+    let s = shape_of(k);
+    if s.sort == 0 {
+        return Stepped {
+            fault: 1,
+            progress: p,
+        };
+    }
+    let left = sheet.len() - (at + 1);
+    if left < (s.body as usize) {
+        return Stepped {
+            fault: 2,
+            progress: p,
+        };
+    }
+    let a = body_byte(sheet, at, s, 1);
+    let b = body_byte(sheet, at, s, 2);
+    let v = vacuous_of(table, p.count, k, a, b);
+    let f = body_fault(table, p.count, s, a, b);
+    if f != 0 {
+        return Stepped {
+            fault: f,
+            progress: p,
+        };
+    }
+    let e = Entry {
+        kind: k,
+        first: a,
+        second: b,
+        named: false,
+        vacuous: v,
+    };
+    let q = append(table, p, e, s.body);
+    Stepped {
+        fault: 0,
+        progress: q,
+    }
+}
+
+// All records: the first fault with its place, or 0 and the progress at the end.
+pub fn scan(sheet: &[u8], table: &mut [u32; 255]) -> Scanned
+    ensures { λ r. ⌜ (scanningOf (now (table .exit)) r ≡ scanSheet (now (sheet .entry))) × (r .progress .count ≤ 255) ⌝ }
+{
+    let mut p = Progress {
+        count: 0,
+        at: 0,
+        names: 0,
+        roles: 0,
+    };
+    while p.at < sheet.len() {
+        let at = p.at;
+        if p.count == 255 {
+            return Scanned {
+                fault: 3,
+                place: at,
+                progress: p,
+            };
+        }
+        let s = step(sheet, table, p);
+        if s.fault != 0 {
+            return Scanned {
+                fault: s.fault,
+                place: at,
+                progress: p,
+            };
+        }
+        p = s.progress;
+    }
+    Scanned {
+        fault: 0,
+        place: 0,
+        progress: p,
+    }
+}
