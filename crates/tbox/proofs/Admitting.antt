@@ -104,7 +104,7 @@ module _ (limit : ℕ) (sheet table parts′ : List ℕ) (a : Admitted) (p : Adm
     unfolding listNumbers listSays listLeaves
     list-whole z n m h l q =
         rw (p .read z) (record {
-          answer = ap (λ (x : ℕ). 0 ∷ x ∷ []) (count-is z) ∙ simp (le-ltb _ _ room);
+          answer = ap (λ (x : ℕ). 0 ∷ 0 ∷ x ∷ []) (count-is z) ∙ simp (le-ltb _ _ room);
           list = q ∙ rw (count-is z, slots-bytes (seen table (a .count)) parts′ (partsOf (kbAdmitted table a)) (omega (arith, count-is z, p .small z)) (stood z)) (simp (le-ltb _ _ room));
         })
       where

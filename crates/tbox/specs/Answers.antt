@@ -17,20 +17,19 @@ use Rattle.tbox.specs.Reading.{Kb, Reading, refusal, kb, partsOf, readKb
 abbrev pub limit : ℕ
 limit = 12
 
--- document 01's number and values for each case: the refusal's number and place; 0, then T, L and c
+-- document 01's number and values for each case of an answer: the refusal's number (0 for none), its place, then the values
 unfoldable pub readNumbers : ReadAnswer → List ℕ
 readNumbers (Refused n p) = n ∷ p ∷ []
-readNumbers (Read t l c) = 0 ∷ t ∷ l ∷ c ∷ []
+readNumbers (Read t l c) = 0 ∷ 0 ∷ t ∷ l ∷ c ∷ []
 
--- the refusal's number and place; 0, then c
 unfoldable pub listNumbers : ListAnswer → List ℕ
 listNumbers (NotListed n p) = n ∷ p ∷ []
-listNumbers (Listed c) = 0 ∷ c ∷ []
+listNumbers (Listed c) = 0 ∷ 0 ∷ c ∷ []
 
 -- "read answers T, L and c"
 unfoldable pub readSays : Reading → List ℕ
 readSays (refusal n p) = n ∷ p ∷ []
-readSays (kb k) = 0 ∷ k .names ∷ k .roles ∷ length (partsOf k) ∷ []
+readSays (kb k) = 0 ∷ 0 ∷ k .names ∷ k .roles ∷ length (partsOf k) ∷ []
 
 abbrev pub oddNo : Tag → ℕ
 oddNo g = cond (g .odd) 1 0
@@ -50,7 +49,7 @@ bytesOf (p ∷ ps) = partBytes p ++ bytesOf ps
 -- "refuses as read does, then 12, list shorter than 3c bytes"
 unfoldable pub listSays : Reading → List ℕ → List ℕ
 listSays (refusal n p) l = n ∷ p ∷ []
-listSays (kb k) l = cond (ltb (length l) (3 * length (partsOf k))) (12 ∷ 0 ∷ []) (0 ∷ length (partsOf k) ∷ [])
+listSays (kb k) l = cond (ltb (length l) (3 * length (partsOf k))) (12 ∷ 0 ∷ []) (0 ∷ 0 ∷ length (partsOf k) ∷ [])
 
 -- "it writes three bytes for each mark; bytes past 3c are kept"; a refusal writes nothing
 unfoldable pub listLeaves : Reading → List ℕ → List ℕ

@@ -6,8 +6,7 @@ use lib.ListN.{replicate}
 use Rattle.tbox.specs.Reading.{readKb}
 use Rattle.tbox.specs.Answers.{limit, readSays, listSays, listLeaves}
 
--- a sheet, what read says of it (0, T, L, c, or a refusal's number and place), a list lent to list marks, what that call says
--- (0, c, or the refusal) and what it leaves in the list
+-- a sheet, what read says of it, a list lent to list marks, what that call says and what it leaves in the list
 pub record Row : Type 0 where
   pub sheet : List ℕ
   pub read : List ℕ
@@ -42,6 +41,22 @@ s5 = 0x01 ∷ 0x03 ∷ 0x00 ∷ 0x10 ∷ 0x00 ∷ 0x08 ∷ 0x02 ∷ 0x00 ∷ 0x0
 abbrev s6 : List ℕ
 s6 = 0x03 ∷ 0x00 ∷ 0x10 ∷ 0x00 ∷ 0x04 ∷ 0x00 ∷ 0x07 ∷ 0x01 ∷ 0x02 ∷ 0x20 ∷ 0x00 ∷ 0x03 ∷ []
 
+-- two axioms: the filler of the first waits until the second has had its turn
+abbrev waits : List ℕ
+waits =
+    0x01 ∷ 0x10 ∷ 0x00 ∷ 0x03 ∷ 0x00 ∷ 0x07 ∷ 0x01 ∷ 0x02 ∷ 0x07 ∷ 0x01 ∷ 0x03 ∷ 0x20 ∷ 0x00 ∷ 0x04 ∷
+    0x07 ∷ 0x01 ∷ 0x02 ∷ 0x20 ∷ 0x00 ∷ 0x06 ∷ []
+
+-- T, L and c; the number of parts listed; a refusal's number and place
+abbrev counts : ℕ → ℕ → ℕ → List ℕ
+counts t l c = 0 ∷ 0 ∷ t ∷ l ∷ c ∷ []
+
+abbrev lists : ℕ → List ℕ
+lists c = 0 ∷ 0 ∷ c ∷ []
+
+abbrev refuses : ℕ → ℕ → List ℕ
+refuses n p = n ∷ p ∷ []
+
 -- so many bytes that are there before
 abbrev full : ℕ → List ℕ
 full n = replicate n 0xff
@@ -54,19 +69,21 @@ names12 =
 
 abbrev pub table : List Row
 table =
-    row [] (0 ∷ 0 ∷ 0 ∷ 0 ∷ []) (full 2) (0 ∷ 0 ∷ []) (full 2) ∷
-    row s1 (0 ∷ 1 ∷ 1 ∷ 2 ∷ []) (full 8) (0 ∷ 2 ∷ []) (0 ∷ 0 ∷ 0 ∷ 2 ∷ 3 ∷ 0 ∷ full 2) ∷
-    row s1 (0 ∷ 1 ∷ 1 ∷ 2 ∷ []) (full 5) (12 ∷ 0 ∷ []) (full 5) ∷
-    row s2 (0 ∷ 1 ∷ 1 ∷ 2 ∷ []) (full 8) (0 ∷ 2 ∷ []) (0 ∷ 0 ∷ 0 ∷ 2 ∷ 3 ∷ 0 ∷ full 2) ∷
-    row s3 (0 ∷ 1 ∷ 1 ∷ 3 ∷ []) (full 11) (0 ∷ 3 ∷ []) (0 ∷ 0 ∷ 0 ∷ 2 ∷ 3 ∷ 0 ∷ 3 ∷ 7 ∷ 0 ∷ full 2) ∷
-    row s4 (0 ∷ 0 ∷ 1 ∷ 1 ∷ []) (full 5) (0 ∷ 1 ∷ []) (2 ∷ 2 ∷ 1 ∷ full 2) ∷
-    row s5 (0 ∷ 1 ∷ 1 ∷ 2 ∷ []) (full 8) (0 ∷ 2 ∷ []) (0 ∷ 0 ∷ 0 ∷ 3 ∷ 3 ∷ 0 ∷ full 2) ∷
-    row s6 (0 ∷ 1 ∷ 1 ∷ 3 ∷ []) (full 11) (0 ∷ 3 ∷ []) (0 ∷ 0 ∷ 0 ∷ 2 ∷ 3 ∷ 0 ∷ 1 ∷ 2 ∷ 0 ∷ full 2) ∷
-    row (0x03 ∷ 0x00 ∷ []) (0 ∷ 1 ∷ 0 ∷ 1 ∷ []) (full 5) (0 ∷ 1 ∷ []) (0 ∷ 0 ∷ 0 ∷ full 2) ∷
-    row (0x03 ∷ 0x0b ∷ []) (0 ∷ 12 ∷ 0 ∷ 12 ∷ []) (full 38) (0 ∷ 12 ∷ []) (names12 ++ full 2) ∷
-    row (0x03 ∷ 0x0c ∷ []) (4 ∷ 0 ∷ []) (full 2) (4 ∷ 0 ∷ []) (full 2) ∷
-    row (0x03 ∷ 0x0b ∷ 0x10 ∷ 0x00 ∷ []) (9 ∷ 0 ∷ []) (full 2) (9 ∷ 0 ∷ []) (full 2) ∷
-    row (0x04 ∷ 0x00 ∷ []) (5 ∷ 0 ∷ []) (full 2) (5 ∷ 0 ∷ []) (full 2) ∷
-    row (0x03 ∷ 0x00 ∷ 0x04 ∷ 0x00 ∷ 0x05 ∷ 0x01 ∷ 0x01 ∷ []) (7 ∷ 4 ∷ []) (full 2) (7 ∷ 4 ∷ []) (full 2) ∷
-    row (0x10 ∷ 0x00 ∷ 0x12 ∷ 0x00 ∷ 0x01 ∷ 0x07 ∷ 0x01 ∷ 0x02 ∷ []) (8 ∷ 5 ∷ []) (full 2) (8 ∷ 5 ∷ []) (full 2) ∷
+    row [] (counts 0 0 0) (full 2) (lists 0) (full 2) ∷
+    row s1 (counts 1 1 2) (full 8) (lists 2) (0 ∷ 0 ∷ 0 ∷ 2 ∷ 3 ∷ 0 ∷ full 2) ∷
+    row s1 (counts 1 1 2) (full 5) (refuses 12 0) (full 5) ∷
+    row s2 (counts 1 1 2) (full 8) (lists 2) (0 ∷ 0 ∷ 0 ∷ 2 ∷ 3 ∷ 0 ∷ full 2) ∷
+    row s3 (counts 1 1 3) (full 11) (lists 3) (0 ∷ 0 ∷ 0 ∷ 2 ∷ 3 ∷ 0 ∷ 3 ∷ 7 ∷ 0 ∷ full 2) ∷
+    row s4 (counts 0 1 1) (full 5) (lists 1) (2 ∷ 2 ∷ 1 ∷ full 2) ∷
+    row s5 (counts 1 1 2) (full 8) (lists 2) (0 ∷ 0 ∷ 0 ∷ 3 ∷ 3 ∷ 0 ∷ full 2) ∷
+    row s6 (counts 1 1 3) (full 11) (lists 3) (0 ∷ 0 ∷ 0 ∷ 2 ∷ 3 ∷ 0 ∷ 1 ∷ 2 ∷ 0 ∷ full 2) ∷
+    row waits (counts 1 1 5) (full 17) (lists 5)
+    (0 ∷ 0 ∷ 0 ∷ 2 ∷ 4 ∷ 0 ∷ 1 ∷ 3 ∷ 0 ∷ 2 ∷ 6 ∷ 0 ∷ 2 ∷ 3 ∷ 0 ∷ full 2) ∷
+    row (0x03 ∷ 0x00 ∷ []) (counts 1 0 1) (full 5) (lists 1) (0 ∷ 0 ∷ 0 ∷ full 2) ∷
+    row (0x03 ∷ 0x0b ∷ []) (counts 12 0 12) (full 38) (lists 12) (names12 ++ full 2) ∷
+    row (0x03 ∷ 0x0c ∷ []) (refuses 4 0) (full 2) (refuses 4 0) (full 2) ∷
+    row (0x03 ∷ 0x0b ∷ 0x10 ∷ 0x00 ∷ []) (refuses 9 0) (full 2) (refuses 9 0) (full 2) ∷
+    row (0x04 ∷ 0x00 ∷ []) (refuses 5 0) (full 2) (refuses 5 0) (full 2) ∷
+    row (0x03 ∷ 0x00 ∷ 0x04 ∷ 0x00 ∷ 0x05 ∷ 0x01 ∷ 0x01 ∷ []) (refuses 7 4) (full 2) (refuses 7 4) (full 2) ∷
+    row (0x10 ∷ 0x00 ∷ 0x12 ∷ 0x00 ∷ 0x01 ∷ 0x07 ∷ 0x01 ∷ 0x02 ∷ []) (refuses 8 5) (full 2) (refuses 8 5) (full 2) ∷
     []

@@ -1,0 +1,62 @@
+//! An independent reader and flattener of knowledge bases (ALCIb, description
+//! logic with inverse and Boolean roles), written from document 01 alone.
+//!
+//! The bytes of a knowledge base are called a sheet. [`read`] checks a sheet
+//! and counts; [`list_marks`] also lists the parts of the flattened knowledge
+//! base. Nothing is allocated.
+
+mod fault;
+mod flatten;
+mod kb;
+
+#[cfg(test)]
+mod tests;
+
+pub use fault::Refusal;
+
+use fault::Fault;
+use flatten::{flatten, PART_BYTES};
+use kb::Kb;
+
+/// What a sheet holds.
+#[derive(Clone, Copy, Debug, PartialEq, Eq)]
+pub struct Counts {
+    /// One more than the largest number of a concept name, or 0 (document 01: traits).
+    pub traits: u64,
+    /// One more than the largest number of a role, or 0 (document 01: links).
+    pub links: u64,
+    /// The parts of the flattened knowledge base (document 01: marks).
+    pub marks: u64,
+}
+
+/// Checks a sheet and counts its concept names, roles and parts.
+pub fn read(sheet: &[u8]) -> Result<Counts, Refusal> {
+    let mut kb = Kb::empty();
+    kb.read(sheet)?;
+    let parts = flatten(&kb)?;
+    Ok(Counts {
+        traits: u64::from(kb.names()),
+        links: u64::from(kb.roles()),
+        marks: parts.as_slice().len() as u64,
+    })
+}
+
+/// Writes three bytes for each part and answers the number of parts.
+///
+/// The bytes are the part's kind (0 name, 1 fresh name, 2 existential,
+/// 3 universal), the name's or record's number, and 1 if that record is read
+/// under an odd number of nots. Bytes past the last part are kept; a refusal
+/// leaves the whole list as it was.
+pub fn list_marks(sheet: &[u8], list: &mut [u8]) -> Result<usize, Refusal> {
+    let mut kb = Kb::empty();
+    kb.read(sheet)?;
+    let parts = flatten(&kb)?;
+    let parts = parts.as_slice();
+    let used = list
+        .get_mut(..PART_BYTES * parts.len())
+        .ok_or(Refusal::of_whole(Fault::ListTooShort))?;
+    for (slot, part) in used.chunks_exact_mut(PART_BYTES).zip(parts) {
+        slot.copy_from_slice(&part.to_bytes());
+    }
+    Ok(parts.len())
+}
