@@ -1,5 +1,5 @@
 -- Laws on what reading a sheet answers.
-use Prim.Native.Nat.{ℕ, _+_, _*_, _-_, _≤_, _<_, min}
+use Prim.Native.Nat.{ℕ, _+_, _*_, _-_, _≤_, _<_}
 use mathlib.Core.Path.{_≡_, refl, sym, ap, _∙_}
 use mathlib.Core.List.{List, [], _∷_, _++_}
 use lib.ListN.{length, take, drop}
@@ -9,10 +9,10 @@ use Rattle.tbox.specs.declared.records.Scanned.{Scanned}
 use Rattle.tbox.specs.declared.Admitted.{Admitted}
 use Rattle.tbox.specs.declared.ReadAnswer.the-variants.{Refused, Read}
 use Rattle.tbox.specs.declared.ListAnswer.the-variants.{Refused as NotListed, Listed}
-use Rattle.tbox.specs.Scan.{Scanning, scanSheet}
-use Rattle.tbox.specs.Reading.{Kb, Reading, refusal, kb, partsOf, admit, reading, readKb}
-use Rattle.tbox.specs.Answers.{readNumbers, readSays, listNumbers, listSays, listLeaves, bytesOf, Lists}
-use Rattle.tbox.specs.Tables.{seen, view, scanningOf, Stood, Held, kbIn, kbAdmitted, foundIn, Admits, slotsOf}
+use Rattle.tbox.specs.Scan.{scanSheet}
+use Rattle.tbox.specs.Reading.{Kb, Reading, refusal, partsOf, admit, reading, readKb}
+use Rattle.tbox.specs.Answers.{readNumbers, readSays, listNumbers, listSays, listLeaves, Lists}
+use Rattle.tbox.specs.Tables.{seen, scanningOf, Stood, Held, kbIn, kbAdmitted, foundIn, Admits, slotsOf}
 use Rattle.tbox.proofs.Holding.{held-length}
 use Rattle.tbox.proofs.Slots.{slots-bytes}
 
@@ -29,27 +29,23 @@ module _ (limit : ℕ) (sheet table : List ℕ) (s : Scanned) (e : scanningOf ta
   unfolding readKb reading
   scan-whole z = sym (ap (reading limit) (simp (eq-eqb _ _ z) at e))
 
-  pub admits-refused : (parts′ : List ℕ) (c : ℕ) → (s .fault ≡ 0 → ⊥) → Admits limit sheet table parts′ (foundIn (s .fault) (s .place) (s .progress) c)
-  admits-refused p c z =
+  refusing : (parts′ : List ℕ) (c f place : ℕ) → (f ≡ 0 → ⊥) → readKb limit sheet ≡ refusal f place → Admits limit sheet table parts′ (foundIn f place (s .progress) c)
+  refusing p c f place z q =
       record {
-        refused = λ _. scan-refused z;
+        refused = λ _. q;
         read = λ f. absurd (z f);
         records = few;
         held = λ f. absurd (z f);
         small = λ f. absurd (z f);
       }
 
+  pub admits-refused : (parts′ : List ℕ) (c : ℕ) → (s .fault ≡ 0 → ⊥) → Admits limit sheet table parts′ (foundIn (s .fault) (s .place) (s .progress) c)
+  admits-refused p c z = refusing p c (s .fault) (s .place) z (scan-refused z)
+
   module _ (parts′ : List ℕ) (c : ℕ) (z : s .fault ≡ 0) (h : Held limit (seen table (s .progress .count)) parts′ c (partsOf (kbScanned table s))) where
     nine : limit < length (partsOf (kbScanned table s)) + s .progress .roles → Admits limit sheet table parts′ (foundIn 9 0 (s .progress) c)
     unfolding admit
-    nine l =
-        record {
-          refused = λ _. scan-whole z ∙ simp (lt-leb _ _ l);
-          read = λ f. absurd (omega arith);
-          records = few;
-          held = λ f. absurd (omega arith);
-          small = λ f. absurd (omega arith);
-        }
+    nine l = refusing parts′ c 9 0 (omega arith) (scan-whole z ∙ simp (lt-leb _ _ l))
 
     pub admits-over : limit < c → Admits limit sheet table parts′ (foundIn 9 0 (s .progress) c)
     admits-over l = nine (omega (arith, h .count))

@@ -1,50 +1,26 @@
--- In a sheet that is read the numbers of names and roles are below those counted, and every role of a restriction fails on the
--- empty role set. Assumes nothing.
+-- In a sheet that is read names and roles are below the counts, and the roles of restrictions fail on the empty role set.
 use Prim.Native.Nat.{ℕ, zero, suc, _<_}
 use mathlib.Core.Path.{_≡_, refl, _∙_}
-use mathlib.Core.Bool.{Bool, true, false, _&&_}
+use mathlib.Core.Bool.{true, false}
 use mathlib.Core.List.{List, [], _∷_, _++_}
 use lib.ListN.{length, getD, take}
 use lib.Seq.{getD-take}
-use lib.Dec.{eqb, leb}
 use native.Mathlib.Omega.{arith}
-use borrow.Author.Tests.{eqb-true, eqb-false, leb-true}
 use Rattle.tbox.specs.declared.records.Entry.{Entry}
-use Rattle.tbox.specs.Shapes.{within, shapeOf, isRestriction}
+use Rattle.tbox.specs.Shapes.{shapeOf, isRestriction}
 use Rattle.tbox.specs.Scan.{State, recordAt, whole, scanSheet}
 use Rattle.tbox.specs.Concepts.{Role, Concept, Node, conceptN, roleN, axiomN, asConcept, asRole, noNode, conceptAt, roleAt, nodeOf, nodesOf, axiomOf, axiomsOf}
 use Rattle.tbox.specs.Truth.{roleOn}
 use Rattle.tbox.specs.Bounds.{RolesBelow, NamesBelow, EachRole, AxiomNames, AxiomRoles, AxiomsBelow}
+use Rattle.tbox.proofs.KindTable.{kind-cases}
 use Rattle.tbox.proofs.Trees.{nodes-length}
 use Rattle.tbox.proofs.Formed.{all-nodes, read-formed, read-counted, restriction-role, restriction-fails}
-
--- a kind is c or another
-try : (P : ℕ → Type 0) (k c : ℕ) → P c → (eqb k c ≡ false → P k) → P k
-try P k c p f = go (eqb k c) refl
-  where
-    go : (b : Bool) → eqb k c ≡ b → P k
-    go true q = rw (eqb-true k c q) p
-    go false q = f q
-
--- neither of two neighbours
-outside : (lo k : ℕ) → eqb k lo ≡ false → eqb k (suc lo) ≡ false → within lo (suc lo) k ≡ false
-outside lo k p q = go (leb lo k) refl (leb k (suc lo)) refl
-  where
-    go : (b : Bool) → leb lo k ≡ b → (c : Bool) → leb k (suc lo) ≡ c → b && c ≡ false
-    go true l true h =
-        absurd (eqb-false k lo p (omega (arith, leb-true lo k l, leb-true k (suc lo) h, eqb-false k (suc lo) q)))
-    go true l false h = refl
-    go false l c h = refl
 
 -- a known kind is one of the table's
 pub known-cases : (P : ℕ → Type 0) → P 0x01 → P 0x02 → P 0x03 → P 0x04 → P 0x05 → P 0x06 → P 0x07 → P 0x08 → P 0x10 → P 0x11 → P 0x12 → P 0x13 →
     P 0x14 → P 0x20 → (k : ℕ) → (shapeOf k .sort ≡ 0 → ⊥) → P k
-unfolding shapeOf
 known-cases P p1 p2 p3 p4 p5 p6 p7 p8 p10 p11 p12 p13 p14 p20 k known =
-    try P k 0x01 p1 (λ e1. try P k 0x02 p2 (λ e2. try P k 0x03 p3 (λ e3. try P k 0x04 p4 (λ e4. try P k 0x05 p5 (λ e5. try P k 0x06 p6 (λ e6.
-    try P k 0x07 p7 (λ e7. try P k 0x08 p8 (λ e8. try P k 0x10 p10 (λ e10. try P k 0x11 p11 (λ e11. try P k 0x12 p12 (λ e12. try P k 0x13 p13 (λ e13.
-    try P k 0x14 p14 (λ e14. try P k 0x20 p20 (λ e20.
-    absurd (known (rw (outside 0x01 k e1 e2, e3, e4, outside 0x05 k e5 e6, outside 0x07 k e7 e8, outside 0x10 k e10 e11, e12, outside 0x13 k e13 e14, e20)))))))))))))))))
+    kind-cases P p1 p2 p3 p4 p5 p6 p7 p8 p10 p11 p12 p13 p14 p20 k (λ u. absurd (known (u .sort)))
 
 -- the role of a record, where the roles that it names are below L
 role-below : (L : ℕ) (ns : List Node) (n k a b : ℕ) → (shapeOf k .sort ≡ 0 → ⊥) → shapeOf k .sort ≡ 2 → (k ≡ 0x10 → a < L) → (k ≡ 0x11 → a < L) →
@@ -104,64 +80,52 @@ axioms-hold T Q (n ∷ ns) h = go n (h zero (omega arith)) (axioms-hold T Q ns (
     go (axiomN a) p w = ((p .0 .0, p .1 .0, w .0), (p .0 .1, p .1 .1, w .1))
 
 module _ (sheet : List ℕ) (st : State) (e : scanSheet sheet ≡ whole st) where
+  abbrev es : List Entry
+  es = st .records
+
   -- the roles of records are below the count
-  pub read-roles : (r : ℕ) → r < length (st .records) → shapeOf (recordAt (st .records) r .kind) .sort ≡ 2 → RolesBelow (st .roles) (roleAt (nodesOf (st .records)) r)
-  read-roles = all-nodes P es step
-    where
-      es : List Entry
-      es = st .records
-
-      P : ℕ → Node → Type 0
-      P r n = shapeOf (recordAt es r .kind) .sort ≡ 2 → RolesBelow (st .roles) (asRole n)
-
-      step : (r : ℕ) → r < length es → ((i : ℕ) → i < r → P i (getD (take r (nodesOf es)) i noNode)) →
-          P r (nodeOf (take r (nodesOf es)) r (recordAt es r .kind) (recordAt es r .first) (recordAt es r .second))
-      step r l h s =
-          let f = read-formed sheet st e .each r l in
-          let c = read-counted sheet st e r l in
-          role-below (st .roles) (take r (nodesOf es)) r (recordAt es r .kind) (recordAt es r .first) (recordAt es r .second) (f .known) s
-          (c .named) (c .inverse)
-          (λ q. let w = f .first (λ z. omega arith) in h (recordAt es r .first) (w .0) (w .1 ∙ q))
-          (λ q. let w = f .second (λ z. omega arith) in h (recordAt es r .second) (w .0) (w .1 ∙ q))
+  pub read-roles : (r : ℕ) → r < length es → shapeOf (recordAt es r .kind) .sort ≡ 2 → RolesBelow (st .roles) (roleAt (nodesOf es) r)
+  read-roles =
+      all-nodes (λ r n. shapeOf (recordAt es r .kind) .sort ≡ 2 → RolesBelow (st .roles) (asRole n)) es
+      (λ r l h s.
+      let f = read-formed sheet st e .each r l in
+      let c = read-counted sheet st e r l in
+      role-below (st .roles) (take r (nodesOf es)) r (recordAt es r .kind) (recordAt es r .first) (recordAt es r .second) (f .known) s
+      (c .named) (c .inverse)
+      (λ q. let w = f .first (λ z. omega arith) in h (recordAt es r .first) (w .0) (w .1 ∙ q))
+      (λ q. let w = f .second (λ z. omega arith) in h (recordAt es r .second) (w .0) (w .1 ∙ q)))
 
   -- the names of records are below the count, and what holds of each restriction's role holds of all roles in the trees
   read-holds : (Q : Role → Type 0) →
-      ((r : ℕ) → r < length (st .records) → isRestriction (shapeOf (recordAt (st .records) r .kind)) ≡ true → Q (roleAt (nodesOf (st .records)) (recordAt (st .records) r .first))) →
-      AxiomNames (st .names) (axiomsOf (nodesOf (st .records))) × AxiomRoles Q (axiomsOf (nodesOf (st .records)))
-  read-holds Q restricted = axioms-hold (st .names) Q (nodesOf es) (λ r l. all-nodes P es step r (omega (arith, nodes-length es)))
-    where
-      es : List Entry
-      es = st .records
-
-      P : ℕ → Node → Type 0
-      P r n = Holds (st .names) Q n
-
-      step : (r : ℕ) → r < length es → ((i : ℕ) → i < r → P i (getD (take r (nodesOf es)) i noNode)) →
-          P r (nodeOf (take r (nodesOf es)) r (recordAt es r .kind) (recordAt es r .first) (recordAt es r .second))
-      step r l h =
-          let f = read-formed sheet st e .each r l in
-          concept-holds (st .names) Q (take r (nodesOf es)) r (recordAt es r .kind) (recordAt es r .first) (recordAt es r .second) (f .known)
-          (read-counted sheet st e r l .name)
-          (λ q.
-          let w = f .first (λ z. omega (arith, restriction-role (shapeOf (recordAt es r .kind)) q)) in
-          rw (getD-take r (nodesOf es) (recordAt es r .first) noNode (w .0)) (restricted r l q))
-          (λ q. holds-concept (st .names) Q (getD (take r (nodesOf es)) (recordAt es r .first) noNode) (h (recordAt es r .first) (f .first (λ z. omega arith) .0)))
-          (λ q. holds-concept (st .names) Q (getD (take r (nodesOf es)) (recordAt es r .second) noNode) (h (recordAt es r .second) (f .second (λ z. omega arith) .0)))
+      ((r : ℕ) → r < length es → isRestriction (shapeOf (recordAt es r .kind)) ≡ true → Q (roleAt (nodesOf es) (recordAt es r .first))) →
+      AxiomNames (st .names) (axiomsOf (nodesOf es)) × AxiomRoles Q (axiomsOf (nodesOf es))
+  read-holds Q restricted =
+      axioms-hold (st .names) Q (nodesOf es)
+      (λ r l.
+      all-nodes (λ _ n. Holds (st .names) Q n) es
+      (λ r l h.
+      let f = read-formed sheet st e .each r l in
+      concept-holds (st .names) Q (take r (nodesOf es)) r (recordAt es r .kind) (recordAt es r .first) (recordAt es r .second) (f .known)
+      (read-counted sheet st e r l .name)
+      (λ q.
+      let w = f .first (λ z. omega (arith, restriction-role (shapeOf (recordAt es r .kind)) q)) in
+      rw (getD-take r (nodesOf es) (recordAt es r .first) noNode (w .0)) (restricted r l q))
+      (λ q. holds-concept (st .names) Q (getD (take r (nodesOf es)) (recordAt es r .first) noNode) (h (recordAt es r .first) (f .first (λ z. omega arith) .0)))
+      (λ q. holds-concept (st .names) Q (getD (take r (nodesOf es)) (recordAt es r .second) noNode) (h (recordAt es r .second) (f .second (λ z. omega arith) .0))))
+      r (omega (arith, nodes-length es)))
 
   -- the names and roles of the axioms are below the counts
-  pub read-bounded : AxiomsBelow (st .names) (st .roles) (axiomsOf (nodesOf (st .records)))
-  read-bounded = record { names = w .0; roles = w .1 }
-    where
-      restricted : (r : ℕ) → r < length (st .records) → isRestriction (shapeOf (recordAt (st .records) r .kind)) ≡ true →
-          RolesBelow (st .roles) (roleAt (nodesOf (st .records)) (recordAt (st .records) r .first))
-      restricted r l q =
-          let k = restriction-role (shapeOf (recordAt (st .records) r .kind)) q in
-          let w = read-formed sheet st e .each r l .first (λ z. omega arith) in
-          read-roles (recordAt (st .records) r .first) (omega arith) (w .1 ∙ k)
-
-      w : AxiomNames (st .names) (axiomsOf (nodesOf (st .records))) × AxiomRoles (RolesBelow (st .roles)) (axiomsOf (nodesOf (st .records)))
-      w = read-holds (RolesBelow (st .roles)) restricted
+  pub read-bounded : AxiomsBelow (st .names) (st .roles) (axiomsOf (nodesOf es))
+  read-bounded =
+      let w =
+      read-holds (RolesBelow (st .roles))
+      (λ r l q.
+      let k = restriction-role (shapeOf (recordAt es r .kind)) q in
+      let f = read-formed sheet st e .each r l .first (λ z. omega arith) in
+      read-roles (recordAt es r .first) (omega arith) (f .1 ∙ k))
+      in
+      record { names = w .0; roles = w .1 }
 
   -- every role in the axioms fails on the empty role set
-  pub axioms-restricted : AxiomRoles (λ u. roleOn u 0 ≡ false) (axiomsOf (nodesOf (st .records)))
+  pub axioms-restricted : AxiomRoles (λ u. roleOn u 0 ≡ false) (axiomsOf (nodesOf es))
   axioms-restricted = read-holds (λ u. roleOn u 0 ≡ false) (restriction-fails sheet st e) .1

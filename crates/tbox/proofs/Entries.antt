@@ -1,31 +1,62 @@
 -- Laws of a record's word, and of the records that a table of words holds.
-use Prim.Native.Nat.{ℕ, zero, suc, _+_, _*_, _/_, _%_, _≤_, _<_}
+use Prim.Native.Nat.{ℕ, zero, suc, _+_, _-_, _*_, _/_, _%_, _≤_, _<_}
 use mathlib.Core.Path.{_≡_, refl, ap, _∙_}
 use mathlib.Core.Bool.{Bool, true, false}
 use mathlib.Core.List.{List, [], _∷_, _++_, map, map-append}
 use lib.ListN.{length, getD, take, set, length-take, length-map, List·getD-map, List·getD-eq-default}
 use lib.Seq.{getD-take, take-set-lt, length-take-le, take-suc-set}
 use lib.Dec.{eqb}
-use native.Mathlib.Numerals.{add-one}
 use native.Mathlib.Omega.{arith}
+use native.Mathlib.Numerals.{add-one}
 use Rattle.tbox.specs.declared.records.Entry.{Entry}
-use Rattle.tbox.specs.Scan.{recordAt, blank}
+use Rattle.tbox.specs.Scan.{recordAt, blank, naming}
 use Rattle.tbox.specs.Tables.{entryOf, seen, flag}
 
+-- a word by its digits
 entry-is : (w : ℕ) (e : Entry) → w % 256 ≡ e .kind → w / 256 % 256 ≡ e .first → w / 65536 % 256 ≡ e .second →
-    w / 16777216 % 2 ≡ flag (e .named) → w / 33554432 % 2 ≡ flag (e .vacuous) → entryOf w ≡ e
+    w / 16777216 % 2 ≡ flag (e .named) → w / 33554432 % 2 ≡ flag (e .vacuous) → w / 67108864 % 4 ≡ e .sort →
+    w / 268435456 % 2 ≡ flag (e .leaf) → entryOf w ≡ e
 unfolding entryOf
-entry-is w e k a b n v = rw (k, a, b, n, v, back (e .named), back (e .vacuous))
+entry-is w e k a b n v s l = rw (k, a, b, n, v, s, l, back (e .named), back (e .vacuous), back (e .leaf))
   where
     back : (x : Bool) → eqb (flag x) 1 ≡ x
     back true = refl
     back false = refl
 
 -- the word of an entry, read as an entry
-pub word-entry : (e : Entry) (n v : ℕ) → e .kind < 256 → e .first < 256 → e .second < 256 → n ≡ flag (e .named) → v ≡ flag (e .vacuous) →
-    n ≤ 1 → v ≤ 1 → entryOf (e .kind + 256 * e .first + 65536 * e .second + 16777216 * (n + 2 * v)) ≡ e
-word-entry e n v k a b p q l m =
-    entry-is (e .kind + 256 * e .first + 65536 * e .second + 16777216 * (n + 2 * v)) e (omega arith) (omega arith) (omega arith) (omega arith) (omega arith)
+pub word-entry : (e : Entry) (n v l : ℕ) → e .kind < 256 → e .first < 256 → e .second < 256 → e .sort < 4 → n ≡ flag (e .named) →
+    v ≡ flag (e .vacuous) → l ≡ flag (e .leaf) → n ≤ 1 → v ≤ 1 → l ≤ 1 →
+    entryOf (e .kind + 256 * e .first + 65536 * e .second + 16777216 * (n + 2 * v + 4 * e .sort + 16 * l)) ≡ e
+word-entry e n v l k a b s p q r hn hv hl =
+    entry-is (e .kind + 256 * e .first + 65536 * e .second + 16777216 * f) e
+    (omega arith) (omega arith) (omega arith) (omega arith) (omega arith) (omega arith) (omega arith)
+  where
+    f : ℕ
+    f = n + 2 * v + 4 * e .sort + 16 * l
+
+-- the flag that a record is named, set in its word
+pub word-named : (w : ℕ) → entryOf (w + 16777216 * (1 - w / 16777216 % 2)) ≡ naming (entryOf w)
+unfolding entryOf
+word-named w = set (w + 16777216 * t) (digit _ _ (65536 * t) (omega arith)) (digit _ _ (256 * t) (omega arith)) (digit _ _ t (omega arith)) above
+  where
+    t : ℕ
+    t = 1 - w / 16777216 % 2
+
+    digit : (x y t : ℕ) → x ≡ y + 256 * t → x % 256 ≡ y % 256
+    digit x y t e = omega arith
+
+    above : (w + 16777216 * t) / 16777216 ≡ 1 + 2 * (w / 33554432)
+    above =
+        let e : w / 16777216 ≡ w / 16777216 % 2 + 2 * (w / 33554432) = omega arith in
+        omega arith
+
+    high : (v w : ℕ) → v / 16777216 ≡ 1 + 2 * (w / 33554432) →
+        (v / 16777216 % 2 ≡ 1) × (v / 33554432 ≡ w / 33554432) × (v / 67108864 ≡ w / 67108864) × (v / 268435456 ≡ w / 268435456)
+    high v w e = (omega arith, omega arith, omega arith, omega arith)
+
+    set : (v : ℕ) → v % 256 ≡ w % 256 → v / 256 % 256 ≡ w / 256 % 256 → v / 65536 % 256 ≡ w / 65536 % 256 →
+        v / 16777216 ≡ 1 + 2 * (w / 33554432) → entryOf v ≡ naming (entryOf w)
+    set v k a b e = let h = high v w e in rw (k, a, b, h .0, h .1, h .2, h .3)
 
 -- record r of the first n, and past them
 pub seen-at : (t : List ℕ) (n r : ℕ) → r < n → recordAt (seen t n) r ≡ entryOf (getD t r 0)
@@ -35,6 +66,9 @@ seen-at t n r h = List·getD-map entryOf (take n t) r 0 ∙ ap entryOf (getD-tak
 pub seen-short : (t : List ℕ) (n r : ℕ) → n ≤ r → length (seen t n) ≤ r
 unfolding seen
 seen-short t n r h = simp (length-map, length-take) (omega arith)
+
+pub seen-most : (t : List ℕ) (n : ℕ) → length (seen t n) ≤ n
+seen-most t n = seen-short t n n (omega arith)
 
 pub seen-past : (t : List ℕ) (n r : ℕ) → n ≤ r → recordAt (seen t n) r ≡ blank
 seen-past t n r h = List·getD-eq-default (seen t n) blank (seen-short t n r h)

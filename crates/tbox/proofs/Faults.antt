@@ -22,10 +22,10 @@ pub name-past : (t : List ℕ) (n sort r : ℕ) → (sort ≡ 0 → ⊥) → n �
 unfolding name
 name-past t n sort r z h = simp (ne-eqb sort 0 z) (set-out (seen t n) r _ (seen-short t n r h))
 
-pub name-at : (t : List ℕ) (n sort r w : ℕ) (e : Entry) → (sort ≡ 0 → ⊥) → r < n → e ≡ entryOf (getD t r 0) → entryOf w ≡ naming e →
+pub name-at : (t : List ℕ) (n sort r w : ℕ) → (sort ≡ 0 → ⊥) → r < n → entryOf w ≡ naming (entryOf (getD t r 0)) →
     seen (set t r w) n ≡ name (seen t n) sort r
 unfolding name
-name-at t n sort r w e z h pe pw = simp (ne-eqb sort 0 z, seen-at t n r h, ← pe, ← pw) (seen-set t n r w h)
+name-at t n sort r w z h p = simp (ne-eqb sort 0 z, seen-at t n r h, ← p) (seen-set t n r w h)
 
 -- a reference
 pub reference-none : (es : List Entry) (sort r : ℕ) → sort ≡ 0 → 0 ≡ referenceFault es sort r
@@ -36,11 +36,11 @@ pub reference-past : (es : List Entry) (sort r : ℕ) → (sort ≡ 0 → ⊥) �
 unfolding referenceFault
 reference-past es sort r z h = simp (ne-eqb sort 0 z, le-leb (length es) r h)
 
--- a reference to an earlier record e of shape s
-pub reference-within : (es : List Entry) (sort r : ℕ) (e : Entry) (s : Shape) (f g : ℕ) → (sort ≡ 0 → ⊥) → r < length es → e ≡ recordAt es r →
-    s ≡ shapeOf (e .kind) → f ≡ sortFault sort (s .sort) → g ≡ againFault e → orElse f g ≡ referenceFault es sort r
+-- a reference to an earlier record e
+pub reference-within : (es : List Entry) (sort r : ℕ) (e : Entry) (f g : ℕ) → (sort ≡ 0 → ⊥) → r < length es → e ≡ recordAt es r →
+    f ≡ sortFault sort (e .sort) → g ≡ againFault e → orElse f g ≡ referenceFault es sort r
 unfolding referenceFault
-reference-within es sort r e s f g z h pe ps pf pg = rw (pf, pg, ps, pe) (simp (ne-eqb sort 0 z, lt-leb (length es) r h))
+reference-within es sort r e f g z h pe pf pg = rw (pf, pg, pe) (simp (ne-eqb sort 0 z, lt-leb (length es) r h))
 
 -- the first fault of a body
 module _ (es : List Entry) (s : Shape) (a b f g h : ℕ) (pf : f ≡ numberFault s a) (pg : g ≡ referenceFault es (s .first) a)

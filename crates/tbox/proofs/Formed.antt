@@ -1,27 +1,28 @@
--- What the records of a sheet that is read are like. Assumes nothing.
+-- What the records of a sheet that is read are like.
 use Prim.Native.Nat.{ℕ, zero, suc, _+_, _-_, _*_, _≤_, _<_, max}
 use mathlib.Core.Path.{_≡_, refl, sym, ap, _∙_}
 use mathlib.Core.Logic.{_⊎_, ⊎-elim}
-use mathlib.Core.Bool.{Bool, true, false, cond, not, _&&_, _||_}
+use mathlib.Core.Bool.{Bool, true, false, cond, _&&_}
 use mathlib.Core.List.{List, [], _∷_, _++_, map, map-append}
 use lib.ListN.{length, getD, take, set, length-append, length-map, length-take, List·getD-append, List·getD-map, List·getD-eq-default}
 use lib.Seq.{take-append-le, take-at, getD-at, getD-take, length-take-le, map-set-same}
 use lib.Dec.{eqb, leb, ltb}
 use native.Mathlib.Omega.{arith}
 use borrow.Author.Tests.{eqb-true, eqb-false, leb-false, ltb-true, ltb-false}
-use Rattle.tbox.specs.declared.records.Shape.{Shape}
-use Rattle.tbox.specs.declared.records.Entry.{Entry}
-use Rattle.tbox.specs.Shapes.{shapeOf, isRestriction}
-use Rattle.tbox.specs.Scan.{State, start, blank, recordAt, orElse, numberFault, sortFault, againFault, referenceFault, naming, name, emptyFault, bodyFault, vacuousOf, entryFor, namesAfter, rolesAfter, after, bodyByte, shapeAt, recordFault, recordAfter, refused, whole, scan, scanSheet}
 use Rattle.bitset.specs.Bits.{bit}
 use Rattle.bitset.proofs.Laws.{bit-past}
+use Rattle.tbox.specs.declared.records.Shape.{Shape}
+use Rattle.tbox.specs.declared.records.Entry.{Entry}
+use Rattle.tbox.specs.Shapes.{shapeOf, isLeaf, isRestriction}
+use Rattle.tbox.specs.Scan.{State, start, blank, recordAt, orElse, numberFault, sortFault, againFault, referenceFault, naming, name, emptyFault, bodyFault, vacuousOf, entryFor, namesAfter, rolesAfter, after, bodyByte, shapeAt, recordFault, recordAfter, refused, whole, scan, scanSheet}
 use Rattle.tbox.specs.Concepts.{Node, asRole, noNode, roleAt, nodeOf, nodesOf}
 use Rattle.tbox.specs.Truth.{roleOn}
-use Rattle.tbox.proofs.Trees.{nodeBy, node-at}
+use Rattle.tbox.proofs.KindTable.{kind-cases}
+use Rattle.tbox.proofs.Trees.{nodeBy, node-is}
 
 -- a record as written, without the flag that a later one names it
 abbrev unnamed : Entry → Entry
-unnamed e = record { kind = e .kind; first = e .first; second = e .second; named = false; vacuous = e .vacuous }
+unnamed e = record { kind = e .kind; first = e .first; second = e .second; named = false; vacuous = e .vacuous; sort = e .sort; leaf = e .leaf }
 
 abbrev bare : List Entry → List Entry
 bare es = map unnamed es
@@ -59,6 +60,8 @@ Finds es below wanted r = (wanted ≡ 0 → ⊥) → (r < below) × (shapeOf (re
 
 -- a record, its number and the records it may name
 pub record FormedAt (es : List Entry) (r : ℕ) (e : Entry) : Type 0 where
+  pub sort : e .sort ≡ shapeOf (e .kind) .sort
+  pub leaf : e .leaf ≡ isLeaf (shapeOf (e .kind))
   pub known : shapeOf (e .kind) .sort ≡ 0 → ⊥
   pub number : numberFault (shapeOf (e .kind)) (e .first) ≡ 0
   pub first : Finds es r (shapeOf (e .kind) .first) (e .first)
@@ -96,20 +99,24 @@ neither f g = go (eqb f 0) refl
     go true q p = (eqb-true f 0 q, p)
     go false q p = absurd (eqb-false f 0 q p)
 
-reference-finds : (es xs : List Entry) → bare es ≡ xs → (wanted r : ℕ) → referenceFault es wanted r ≡ 0 → Finds xs (length xs) wanted r
+-- each record has the sort of its kind
+abbrev Sorted : List Entry → Type 0
+Sorted es = (r : ℕ) → r < length es → recordAt es r .sort ≡ shapeOf (recordAt es r .kind) .sort
+
+reference-finds : (es xs : List Entry) → bare es ≡ xs → Sorted xs → (wanted r : ℕ) → referenceFault es wanted r ≡ 0 → Finds xs (length xs) wanted r
 unfolding referenceFault
-reference-finds es xs x wanted r = go (eqb wanted 0) refl (leb (length es) r) refl
+reference-finds es xs x s wanted r = go (eqb wanted 0) refl (leb (length es) r) refl
   where
     go : (b : Bool) → eqb wanted 0 ≡ b → (c : Bool) → leb (length es) r ≡ c →
-        cond b 0 (cond c 5 (orElse (sortFault wanted (shapeOf (recordAt es r .kind) .sort)) (againFault (recordAt es r)))) ≡ 0 → Finds xs (length xs) wanted r
+        cond b 0 (cond c 5 (orElse (sortFault wanted (recordAt es r .sort)) (againFault (recordAt es r)))) ≡ 0 → Finds xs (length xs) wanted r
     go true q c k p n = absurd (n (eqb-true wanted 0 q))
     go false q true k p n = absurd (omega arith)
-    go false q false k p n = (
-      rw (← x, length-map) (leb-false (length es) r k),
-      rw (← x, bare-at es r) (same (eqb (shapeOf (recordAt es r .kind) .sort) wanted) refl (neither _ _ p .0)),
-    )
+    go false q false k p n = (within, sym (s r within) ∙ rw (← x, bare-at es r) (same (eqb (recordAt es r .sort) wanted) refl (neither _ _ p .0)))
       where
-        same : (b : Bool) → eqb (shapeOf (recordAt es r .kind) .sort) wanted ≡ b → _≡_ {A = ℕ} (cond b 0 6) 0 → shapeOf (recordAt es r .kind) .sort ≡ wanted
+        within : r < length xs
+        within = rw (← x, length-map) (leb-false (length es) r k)
+
+        same : (b : Bool) → eqb (recordAt es r .sort) wanted ≡ b → _≡_ {A = ℕ} (cond b 0 6) 0 → recordAt es r .sort ≡ wanted
         same true q p = eqb-true _ _ q
         same false q p = absurd (omega arith)
 
@@ -126,19 +133,21 @@ unfolding vacuousOf
 vacuous-bare es xs x k a b = rw (← x, bare-at es a, bare-at es b)
 
 -- a record without fault, after those that were read
-new-right : (es xs : List Entry) → bare es ≡ xs → (k a b : ℕ) → (shapeOf k .sort ≡ 0 → ⊥) → bodyFault es (shapeOf k) a b ≡ 0 → Right xs (entryFor es k a b)
+new-right : (es xs : List Entry) → bare es ≡ xs → Sorted xs → (k a b : ℕ) → (shapeOf k .sort ≡ 0 → ⊥) → bodyFault es (shapeOf k) a b ≡ 0 → Right xs (entryFor es k a b)
 unfolding bodyFault
-new-right es xs x k a b n p =
+new-right es xs x s k a b n p =
     let p1 = neither _ _ p in
     let p2 = neither _ _ (p1 .1) in
     let p3 = neither _ _ (p2 .1) in
     record {
       formed =
           record {
+            sort = refl;
+            leaf = refl;
             known = n;
             number = p1 .0;
-            first = reference-finds es xs x (shapeOf k .first) a (p2 .0);
-            second = reference-finds (name es (shapeOf k .first) a) xs (name-bare es (shapeOf k .first) a ∙ x) (shapeOf k .second) b (p3 .0);
+            first = reference-finds es xs x s (shapeOf k .first) a (p2 .0);
+            second = reference-finds (name es (shapeOf k .first) a) xs (name-bare es (shapeOf k .first) a ∙ x) s (shapeOf k .second) b (p3 .0);
             restricted = empty-restricted es xs x (shapeOf k) a (p3 .1);
           };
       vacuous = vacuous-bare es xs x k a b;
@@ -175,15 +184,12 @@ roles-after n k a p = go (eqb k 0x10) refl (eqb k 0x11) refl
     m : Bool → Bool → ℕ
     m b c = cond b (max n (a + 1)) (cond c (max n (a + 1)) n)
 
+    up : a < 4 → Most 4 n (max n (a + 1)) × (k ≡ 0x10 → a < max n (a + 1)) × (k ≡ 0x11 → a < max n (a + 1))
+    up l = ((omega arith, λ h. omega arith), (λ _. omega arith), (λ _. omega arith))
+
     go : (b : Bool) → eqb k 0x10 ≡ b → (c : Bool) → eqb k 0x11 ≡ c → Most 4 n (m b c) × (k ≡ 0x10 → a < m b c) × (k ≡ 0x11 → a < m b c)
-    go true q c t =
-        let e : k ≡ 0x10 = eqb-true k 0x10 q in
-        let l : a < 4 = number-low 4 a (rw e at p) in
-        ((omega arith, λ h. omega arith), (λ _. omega arith), (λ _. omega arith))
-    go false q true t =
-        let e : k ≡ 0x11 = eqb-true k 0x11 t in
-        let l : a < 4 = number-low 4 a (rw e at p) in
-        ((omega arith, λ h. omega arith), (λ _. omega arith), (λ _. omega arith))
+    go true q c t = up (number-low 4 a (rw (eqb-true k 0x10 q) at p))
+    go false q true t = up (number-low 4 a (rw (eqb-true k 0x11 t) at p))
     go false q false t = ((omega arith, λ h. h), (λ e. absurd (eqb-false k 0x10 q e)), (λ e. absurd (eqb-false k 0x11 t e)))
 
 more-counted : {e : Entry} (m n p q : ℕ) → m ≤ p → n ≤ q → Counted m n e → Counted p q e
@@ -222,7 +228,7 @@ after-good room st k a b n p g =
     roles = rolesAfter (st .roles) k a
 
     new : Right (bare (st .records)) e
-    new = new-right (st .records) (bare (st .records)) refl k a b n p
+    new = new-right (st .records) (bare (st .records)) refl (λ r l. g .right r l .formed .sort) k a b n p
 
     more : Most 12 (st .names) names × (k ≡ 0x03 → a < names)
     more = names-after (st .names) k a (new .formed .number)
@@ -295,6 +301,8 @@ before-finds es r wanted to f n = let w = f n in (w .0, rw (before-at es r to (w
 before-formed : (es : List Entry) (r : ℕ) (e : Entry) → FormedAt (take r (bare es)) r (unnamed e) → FormedAt es r e
 before-formed es r e f =
     record {
+      sort = f .sort;
+      leaf = f .leaf;
       known = f .known;
       number = f .number;
       first = before-finds es r (shapeOf (e .kind) .first) (e .first) (f .first);
@@ -310,7 +318,7 @@ all-nodes P es f r l = go (length es) r l l
   where
     go : (n r : ℕ) → r < n → r < length es → P r (getD (nodesOf es) r noNode)
     go zero r h l = absurd (omega arith)
-    go (suc n) r h l = rw (node-at es r l) (f r l (λ i k. rw (getD-take r (nodesOf es) i noNode k) (go n i (omega arith) (omega arith))))
+    go (suc n) r h l = rw (node-is es r (recordAt es r) refl) (f r l (λ i k. rw (getD-take r (nodesOf es) i noNode k) (go n i (omega arith) (omega arith))))
 
 -- no role is in the empty role set
 empty-bit : (k : ℕ) → bit 0 k ≡ false
@@ -320,31 +328,14 @@ empty-bit k = bit-past 0 0 k (omega arith) (omega arith)
 abbrev onNone : Node → Bool
 onNone n = roleOn (asRole n) 0
 
-pass : (x y : Node) (b : Bool) → onNone x ≡ false → onNone y ≡ false → onNone (cond b x y) ≡ false
-pass x y true p q = p
-pass x y false p q = q
-
-abbrev flagOf : List Node → ℕ → ℕ → ℕ → Bool
-flagOf ns k a b =
-    cond (eqb k 0x12) (not (roleOn (roleAt ns a) 0))
-    (cond (eqb k 0x13) (roleOn (roleAt ns a) 0 && roleOn (roleAt ns b) 0)
-    (cond (eqb k 0x14) (roleOn (roleAt ns a) 0 || roleOn (roleAt ns b) 0) false))
-
-node-flag : (ns : List Node) (n k a b : ℕ) → flagOf ns k a b ≡ onNone (nodeOf ns n k a b)
-unfolding nodeOf roleOn
-node-flag ns n k a b = go (eqb k 0x12) refl (eqb k 0x13) refl (eqb k 0x14) refl
-  where
-    go : (x : Bool) → eqb k 0x12 ≡ x → (y : Bool) → eqb k 0x13 ≡ y → (z : Bool) → eqb k 0x14 ≡ z → flagOf ns k a b ≡ onNone (nodeOf ns n k a b)
-    go true e y f z g = rw (eqb-true k 0x12 e)
-    go false e true f z g = rw (eqb-true k 0x13 f)
-    go false e false f true g = rw (eqb-true k 0x14 g)
-    go false e false f false g = simp (e, f, g) (sym (pass _ _ (eqb k 1) refl (pass _ _ (eqb k 2) refl (pass _ _ (eqb k 3) refl (pass _ _ (eqb k 4) refl (pass _ _ (eqb k 5) refl (pass _ _ (eqb k 6) refl (pass _ _ (eqb k 7) refl (pass _ _ (eqb k 8) refl (pass _ _ (eqb k 16) (empty-bit (2 * a)) (pass _ _ (eqb k 17) (empty-bit (2 * a + 1)) (pass _ _ (eqb k 32) refl refl))))))))))))
-
 -- a record's flag says what its tree says, if those of the records before do
 new-flag : (es : List Entry) (ns : List Node) → ((i : ℕ) → recordAt es i .vacuous ≡ roleOn (roleAt ns i) 0) → (n k a b : ℕ) →
     vacuousOf es k a b ≡ onNone (nodeOf ns n k a b)
-unfolding vacuousOf
-new-flag es ns h n k a b = rw (h a, h b) (node-flag ns n k a b)
+unfolding vacuousOf nodeOf roleOn
+new-flag es ns h n k a b =
+    kind-cases (λ k. vacuousOf es k a b ≡ onNone (nodeOf ns n k a b))
+    refl refl refl refl refl refl refl refl (sym (empty-bit (2 * a))) (sym (empty-bit (2 * a + 1))) (rw (h a)) (rw (h a, h b)) (rw (h a, h b)) refl
+    k (λ u. u .vacuous es a b ∙ sym (ap onNone (u .node ns n a b)))
 
 -- past the first r stands the default
 past : {A : Type 0} (r : ℕ) (l : List A) (d : A) (i : ℕ) → r ≤ i → getD (take r l) i d ≡ d
@@ -361,42 +352,45 @@ before-flags es r h i = go (ltb i r) refl
     go false q = let k : r ≤ i = ltb-false i r q in rw (past r (bare es) blank i k, past r (nodesOf es) noNode i k)
 
 module _ (sheet : List ℕ) (st : State) (e : scanSheet sheet ≡ whole st) where
-  right-at : (r : ℕ) → r < length (st .records) → Right (take r (bare (st .records))) (unnamed (recordAt (st .records) r))
-  right-at r l = rw (bare-at (st .records) r) at (read-good sheet st e .1 .right r (rw length-map l))
+  abbrev es : List Entry
+  es = st .records
 
-  pub read-formed : Formed (st .records)
+  right-at : (r : ℕ) → r < length es → Right (take r (bare es)) (unnamed (recordAt es r))
+  right-at r l = rw (bare-at es r) at (read-good sheet st e .1 .right r (rw length-map l))
+
+  pub read-formed : Formed es
   read-formed =
       record {
         few = let w = read-good sheet st e .1 .few in omega arith;
-        each = λ r l. before-formed (st .records) r (recordAt (st .records) r) (rw (length-take-le r (bare (st .records)) (rw length-map (omega arith))) at (right-at r l .formed));
+        each = λ r l. before-formed es r (recordAt es r) (rw (length-take-le r (bare es) (rw length-map (omega arith))) at (right-at r l .formed));
       }
 
   pub read-few : (st .names ≤ 12) × (st .roles ≤ 4)
   read-few = (read-good sheet st e .1 .names, read-good sheet st e .1 .roles)
 
-  pub read-counted : (r : ℕ) → r < length (st .records) → Counted (st .names) (st .roles) (recordAt (st .records) r)
+  pub read-counted : (r : ℕ) → r < length es → Counted (st .names) (st .roles) (recordAt es r)
   read-counted r l =
-      let c = rw (bare-at (st .records) r) at (read-good sheet st e .1 .counted r (rw length-map l)) in
+      let c = rw (bare-at es r) at (read-good sheet st e .1 .counted r (rw length-map l)) in
       record { name = c .name; named = c .named; inverse = c .inverse }
 
   -- a record's flag says whether its role holds on the empty role set
-  pub read-flags : (r : ℕ) → r < length (st .records) → recordAt (st .records) r .vacuous ≡ roleOn (roleAt (nodesOf (st .records)) r) 0
+  pub read-flags : (r : ℕ) → r < length es → recordAt es r .vacuous ≡ roleOn (roleAt (nodesOf es) r) 0
   read-flags =
-      all-nodes (λ r n. recordAt (st .records) r .vacuous ≡ onNone n) (st .records)
+      all-nodes (λ r n. recordAt es r .vacuous ≡ onNone n) es
       (λ r l h.
       right-at r l .vacuous ∙
-      new-flag (take r (bare (st .records))) (take r (nodesOf (st .records))) (before-flags (st .records) r h) r
-      (recordAt (st .records) r .kind) (recordAt (st .records) r .first) (recordAt (st .records) r .second))
+      new-flag (take r (bare es)) (take r (nodesOf es)) (before-flags es r h) r
+      (recordAt es r .kind) (recordAt es r .first) (recordAt es r .second))
 
   -- the role of a restriction fails on the empty role set
-  pub restriction-fails : (r : ℕ) → r < length (st .records) → isRestriction (shapeOf (recordAt (st .records) r .kind)) ≡ true →
-      roleOn (roleAt (nodesOf (st .records)) (recordAt (st .records) r .first)) 0 ≡ false
+  pub restriction-fails : (r : ℕ) → r < length es → isRestriction (shapeOf (recordAt es r .kind)) ≡ true →
+      roleOn (roleAt (nodesOf es) (recordAt es r .first)) 0 ≡ false
   restriction-fails r l q =
       let f = read-formed .each r l in
-      let i : recordAt (st .records) r .first < r = f .first (λ z. omega (arith, restriction-role (shapeOf (recordAt (st .records) r .kind)) q)) .0 in
-      sym (read-flags (recordAt (st .records) r .first) (omega arith)) ∙ f .restricted q
+      let i : recordAt es r .first < r = f .first (λ z. omega (arith, restriction-role (shapeOf (recordAt es r .kind)) q)) .0 in
+      sym (read-flags (recordAt es r .first) (omega arith)) ∙ f .restricted q
 
-  pub read-restricted : (r : ℕ) → r < length (st .records) → (recordAt (st .records) r .kind ≡ 0x07) ⊎ (recordAt (st .records) r .kind ≡ 0x08) →
-      roleOn (roleAt (nodesOf (st .records)) (recordAt (st .records) r .first)) 0 ≡ false
+  pub read-restricted : (r : ℕ) → r < length es → (recordAt es r .kind ≡ 0x07) ⊎ (recordAt es r .kind ≡ 0x08) →
+      roleOn (roleAt (nodesOf es) (recordAt es r .first)) 0 ≡ false
   unfolding isRestriction shapeOf
   read-restricted r l k = restriction-fails r l (⊎-elim (λ e. rw e) (λ e. rw e) k)

@@ -1,17 +1,38 @@
--- Laws on tables of parts: what a word more, and what going through a concept adds to the parts that a table stands for.
+-- Laws on tables filled from the front, and on tables of parts: what a word more and what going through a concept adds to the parts.
 use Prim.Native.Nat.{ℕ, _+_, _≤_, _<_, min}
 use mathlib.Core.Path.{_≡_, refl, _∙_}
 use mathlib.Core.Bool.{Bool, true, false, cond}
 use mathlib.Core.List.{List, [], _∷_, _++_, append-assoc, append-nil}
-use lib.ListN.{length, getD, set, length-append, List·getD-append}
+use lib.ListN.{length, getD, set, length-append, length-set, List·getD-append}
 use lib.Seq.{getD-set-same, getD-set-other, getD-at}
-use lib.Dec.{ltb, eqb}
+use lib.Dec.{ltb}
 use native.Mathlib.Omega.{arith}
-use borrow.Author.Tests.{ltb-true, ltb-false, lt-ltb, le-ltb, eqb-true, eqb-false}
+use native.Mathlib.Decide.{ℕ-discrete}
+use borrow.Author.Tests.{ltb-true, ltb-false, lt-ltb, le-ltb}
 use Rattle.tbox.specs.declared.records.Entry.{Entry}
 use Rattle.tbox.specs.Normal.{Nf, andN, orN}
 use Rattle.tbox.specs.Flatten.{Part, walk, partAt, noPart}
 use Rattle.tbox.specs.Tables.{Stands, Stood, Held, Adds, Pushed, Met}
+
+-- what holds of the first i entries, and of a new one
+each-set : (P : ℕ → ℕ → Type 0) (l : List ℕ) (i v : ℕ) → i < length l → ((k : ℕ) → k < i → P k (getD l k 0)) → P i v →
+    (k : ℕ) → k < i + 1 → P k (getD (set l i v) k 0)
+each-set P l i v h old new k lt = at (ℕ-discrete k i)
+  where
+    at : Dec (k ≡ i) → P k (getD (set l i v) k 0)
+    at (yes e) = rw (e, getD-set-same l i v 0 h) new
+    at (no n) = rw (getD-set-other l i k v 0 n) (old k (omega arith))
+
+-- a table of n entries of which the first i are filled
+pub record Filled (P : ℕ → ℕ → Type 0) (n : ℕ) (l : List ℕ) (i : ℕ) : Type 0 where
+  pub size : length l ≡ n
+  pub each : (k : ℕ) → k < i → P k (getD l k 0)
+
+pub filled-none : (P : ℕ → ℕ → Type 0) (n : ℕ) (l : List ℕ) → length l ≡ n → Filled P n l 0
+filled-none P n l e = record { size = e; each = λ k h. absurd (omega arith) }
+
+pub filled-more : (P : ℕ → ℕ → Type 0) (n : ℕ) (l : List ℕ) (i v : ℕ) → Filled P n l i → i < n → P i v → Filled P n (set l i v) (i + 1)
+filled-more P n l i v f h p = record { size = simp length-set (f .size); each = each-set P l i v (omega (arith, f .size)) (f .each) p }
 
 -- a word put at the end
 push-count : (limit n m k : ℕ) (b : Bool) → ltb n limit ≡ b → n ≡ min k (limit + 1) → m ≡ cond b (n + 1) (limit + 1) → m ≡ min (k + 1) (limit + 1)
@@ -20,20 +41,12 @@ push-count limit n m k false q h e = let l = ltb-false n limit q in omega arith
 
 push-stood : (es : List Entry) (before : List ℕ) (word : ℕ) (after : List ℕ) (so : List Part) (p : Part) → Stood es before so → Stands es (length so) word p →
     length so < length before → after ≡ set before (length so) word → Stood es after (so ++ (p ∷ []))
-push-stood es before word after so p h s l e k i = go (eqb k (length so)) refl
-  where
-    last : k ≡ length so → Stands es k (getD after k 0) (partAt (so ++ (p ∷ [])) k)
-    last q = rw (q, e, getD-set-same before (length so) word 0 l, getD-at so p [] noPart (length so) refl) s
-
-    other : (k ≡ length so → ⊥) → k < length so → Stands es k (getD after k 0) (partAt (so ++ (p ∷ [])) k)
-    other q j = rw (e, getD-set-other before (length so) k word 0 q, List·getD-append so (p ∷ []) noPart k j) (h k j)
-
-    go : (b : Bool) → eqb k (length so) ≡ b → Stands es k (getD after k 0) (partAt (so ++ (p ∷ [])) k)
-    go true q = last (eqb-true k (length so) q)
-    go false q =
-        let x = eqb-false k (length so) q in
-        let y : k < length so + 1 = rw (length-append so (p ∷ [])) at i in
-        other x (omega arith)
+push-stood es before word after so p h s l e k i =
+    rw e
+    (each-set (λ k x. Stands es k x (partAt (so ++ (p ∷ [])) k)) before (length so) word l
+    (λ k j. rw (List·getD-append so (p ∷ []) noPart k j) (h k j))
+    (rw (getD-at so p [] noPart (length so) refl) s)
+    k (rw (length-append so (p ∷ [])) at i))
 
 pub held-push : {limit : ℕ} {es : List Entry} {before : List ℕ} {n word : ℕ} {after : List ℕ} {m : ℕ} {so : List Part} (p : Part) →
     Held limit es before n so → Stands es (length so) word p → Pushed limit before n word after m → Held limit es after m (so ++ (p ∷ []))
@@ -49,21 +62,14 @@ held-push {limit} {es} {before} {n} {word} {after} {m} {so} p h s w =
         push-stood es before word after so p (h .stand (omega arith)) s (omega (arith, w .room (omega arith)))
         (w .table ∙ rw (e, lt-ltb (length so) limit (omega arith)) refl)
 
--- above the limit the words no longer count
-pub held-over : {limit : ℕ} {es : List Entry} {t : List ℕ} {n : ℕ} {so : List Part} (t′ : List ℕ) (ps : List Part) → limit < n → Held limit es t n so →
-    Held limit es t′ n (so ++ ps)
-held-over {limit} {es} {t} {n} {so} t′ ps o h =
-    record {
-      count = rw (length-append so ps) (omega (arith, h .count));
-      stand = λ i. absurd (let j : length so + length ps ≤ limit = rw (length-append so ps) at i in omega (arith, h .count));
-    }
-
-pub held-append-nil : {limit : ℕ} {es : List Entry} {t : List ℕ} {n : ℕ} {so : List Part} → Held limit es t n so → Held limit es t n (so ++ [])
-held-append-nil h = rw append-nil h
-
 -- a count up to the limit is that of the parts
 pub held-length : {limit : ℕ} {es : List Entry} {t : List ℕ} {n : ℕ} {so : List Part} → n ≤ limit → Held limit es t n so → length so ≡ n
 held-length l h = omega (arith, h .count)
+
+-- above the limit a longer list is held too
+pub held-longer : {limit : ℕ} {es : List Entry} {t : List ℕ} {n : ℕ} {so ps : List Part} → Held limit es t n so → limit < n → length so ≤ length ps →
+    Held limit es t n ps
+held-longer h o l = record { count = omega (arith, h .count); stand = λ f. absurd (omega (arith, h .count)) }
 
 -- what the code puts at the end
 pub pushed-fits : {limit : ℕ} {before : List ℕ} {n word : ℕ} {after : List ℕ} → n < limit → n < length before → after ≡ set before n word →
@@ -86,8 +92,8 @@ module _ (limit : ℕ) (es : List Entry) where
   pub adds-none : (c : Nf) (t : List ℕ) (n : ℕ) → ((so : List Part) → walk c so .parts ≡ []) → Adds limit es c t n t n
   adds-none c t n e so h = rw (e so, append-nil so) h
 
-  pub adds-same : (c d : Nf) (before : List ℕ) (n : ℕ) (after : List ℕ) (m : ℕ) → Adds limit es c before n after m → c ≡ d → Adds limit es d before n after m
-  adds-same c d before n after m a e = rw e at a
+  pub adds-same : (c d : Nf) (before : List ℕ) (n : ℕ) (after : List ℕ) (m : ℕ) → Adds limit es c before n after m → d ≡ c → Adds limit es d before n after m
+  adds-same c d before n after m a e = rw e a
 
   -- first c, then d
   module _ (c d : Nf) (before : List ℕ) (n : ℕ) (mid : List ℕ) (k : ℕ) (after : List ℕ) (m : ℕ) where

@@ -1,16 +1,16 @@
 -- The code goes through all axioms and then through the fresh parts in order of their numbers: this is the queue's order.
--- Assumes nothing.
 use Prim.Native.Nat.{ℕ, zero, suc, _+_, _≤_, _<_}
-use native.Mathlib.Omega.{arith}
-use native.Mathlib.Nat.{zero-add}
-use native.Mathlib.Decide.{decLt}
 use mathlib.Core.Path.{_≡_, refl, sym, ap, _∙_}
 use mathlib.Core.Bool.{cond}
 use mathlib.Core.Option.{Option, none, some}
 use mathlib.Core.List.{List, [], _∷_, _++_, append-assoc, append-nil}
 use lib.ListN.{length, getD, take, drop, length-append, length-drop, drop-of-length-le, List·getD-append}
-use lib.Seq.{take-suc, drop-cons, drop-append-le}
+use lib.Seq.{drop-cons, drop-append-le}
 use lib.Dec.{ltb}
+use native.Mathlib.Omega.{arith}
+use native.Mathlib.Nat.{zero-add}
+use native.Mathlib.Numerals.{add-one}
+use native.Mathlib.Decide.{decLt}
 use borrow.Author.Tests.{lt-ltb, le-ltb}
 use Rattle.tbox.specs.Concepts.{Node, noNode, Axiom, axiomOf, axiomsOf}
 use Rattle.tbox.specs.Normal.{Tag, Nf, topN, bottomN, nameN, notN, andN, orN, existsN, forallN}
@@ -52,6 +52,20 @@ never-out : (p : Pending) (q : List Pending) → weights (p ∷ q) ≤ 0 → ⊥
 unfolding weights
 never-out p q h = omega (arith, pending-weights p [])
 
+-- the bound in `run` never cuts the queue short: any that is enough gives the same
+pub run-enough : (f g : ℕ) (q : List Pending) (so : List Part) → weights q ≤ f → weights q ≤ g → run f q so ≡ run g q so
+unfolding run
+run-enough zero zero q so h k = refl
+run-enough zero (suc g) [] so h k = refl
+run-enough zero (suc g) (p ∷ q) so h k = absurd (never-out p q h)
+run-enough (suc f) zero [] so h k = refl
+run-enough (suc f) zero (p ∷ q) so h k = absurd (never-out p q k)
+run-enough (suc f) (suc g) [] so h k = refl
+run-enough (suc f) (suc g) (p ∷ q) so h k =
+    let w : Walked = walkPending p so in
+    ap (λ (r : Flattening). record { axioms = w .flat ∷ r .axioms; parts = w .parts ++ r .parts })
+    (run-enough f g (q ++ w .later) (so ++ w .parts) (step-weights p q so f h) (step-weights p q so g k))
+
 -- the queue of F's flattening, with `done` and `so` behind it and q still on it
 pub record Left (F : Flattening) (done : List Flat) (q : List Pending) (so : List Part) : Type 0 where
   pub fuel : ℕ
@@ -63,9 +77,9 @@ pub left-start : (T : ℕ) (s : List Axiom) → Left (flatten T s) [] (pendings 
 unfolding flatten
 left-start T s = record { fuel = weights (pendings s); enough = omega arith; parts = refl; axioms = refl }
 
-step-from : {F : Flattening} (done : List Flat) (p : Pending) (q : List Pending) (so : List Part) (f : ℕ) → weights (p ∷ q) ≤ f
-    → F .parts ≡ so ++ run f (p ∷ q) so .parts → F .axioms ≡ done ++ run f (p ∷ q) so .axioms
-    → Left F (done ++ (walkPending p so .flat ∷ [])) (q ++ walkPending p so .later) (so ++ walkPending p so .parts)
+step-from : {F : Flattening} (done : List Flat) (p : Pending) (q : List Pending) (so : List Part) (f : ℕ) → weights (p ∷ q) ≤ f →
+    F .parts ≡ so ++ run f (p ∷ q) so .parts → F .axioms ≡ done ++ run f (p ∷ q) so .axioms →
+    Left F (done ++ (walkPending p so .flat ∷ [])) (q ++ walkPending p so .later) (so ++ walkPending p so .parts)
 unfolding run
 step-from done p q so zero e hp ha = absurd (never-out p q e)
 step-from done p q so (suc f) e hp ha =
@@ -77,8 +91,8 @@ step-from done p q so (suc f) e hp ha =
       axioms = ha ∙ sym (append-assoc done (walkPending p so .flat ∷ []) (r .axioms));
     }
 
-pub left-step : {F : Flattening} {done : List Flat} {p : Pending} {q : List Pending} {so : List Part}
-    → Left F done (p ∷ q) so → Left F (done ++ (walkPending p so .flat ∷ [])) (q ++ walkPending p so .later) (so ++ walkPending p so .parts)
+pub left-step : {F : Flattening} {done : List Flat} {p : Pending} {q : List Pending} {so : List Part} →
+    Left F done (p ∷ q) so → Left F (done ++ (walkPending p so .flat ∷ [])) (q ++ walkPending p so .later) (so ++ walkPending p so .parts)
 left-step {F} {done} {p} {q} {so} l = step-from done p q so (l .fuel) (l .enough) (l .parts) (l .axioms)
 
 run-none : (f : ℕ) (so : List Part) → (run f [] so .parts ≡ []) × (run f [] so .axioms ≡ [])
@@ -95,8 +109,8 @@ left-end {F} {done} {so} l =
 pub left-grows : {F : Flattening} {done : List Flat} {q : List Pending} {so : List Part} → Left F done q so → length so ≤ length (F .parts)
 left-grows {q = q} {so} l = omega (arith, ap length (l .parts), length-append so (run (l .fuel) q so .parts))
 
-pub left-part : {F : Flattening} {done : List Flat} {q : List Pending} {so : List Part} → Left F done q so
-    → (k : ℕ) → k < length so → partAt (F .parts) k ≡ partAt so k
+pub left-part : {F : Flattening} {done : List Flat} {q : List Pending} {so : List Part} → Left F done q so →
+    (k : ℕ) → k < length so → partAt (F .parts) k ≡ partAt so k
 left-part {so = so} l k h = rw (l .parts) (List·getD-append so _ _ k h)
 
 -- what a walk puts on the queue is what the parts that it adds put there
@@ -106,13 +120,18 @@ turns-append k [] b = ap (λ (n : ℕ). turnsFrom n b) (omega arith)
 turns-append k (p ∷ a) b =
     rw (turns-append (suc k) a b, append-assoc) (ap (λ (n : ℕ). turnOf k p ++ (turnsFrom (suc k) a ++ turnsFrom n b)) (omega arith))
 
+pub names-length : (T : ℕ) → length (nameParts T) ≡ T
+unfolding nameParts
+names-length zero = refl
+names-length (suc T) = length-append (nameParts T) (nameP T ∷ []) ∙ omega (arith, names-length T)
+
 pub turns-names : (k T : ℕ) → turnsFrom k (nameParts T) ≡ []
 unfolding nameParts turnsFrom turnOf
 turns-names k zero = refl
 turns-names k (suc T) = turns-append k (nameParts T) (nameP T ∷ []) ∙ rw (turns-names k T)
 
-meet-later : (p : Filler → Part) → ((k : ℕ) (a : Filler) → turnOf k (p a) ≡ []) → (g : Tag) (c : Nf) (so : List Part) (o : Option Filler)
-    → meetOne p g c so o .later ≡ turnsFrom (length so) (meetOne p g c so o .parts)
+meet-later : (p : Filler → Part) → ((k : ℕ) (a : Filler) → turnOf k (p a) ≡ []) → (g : Tag) (c : Nf) (so : List Part) (o : Option Filler) →
+    meetOne p g c so o .later ≡ turnsFrom (length so) (meetOne p g c so o .parts)
 unfolding meetOne turnsFrom turnOf
 meet-later p quiet g c so (some a) = rw (quiet (length so) a)
 meet-later p quiet g c so none = rw (quiet (length so) _)
@@ -148,8 +167,8 @@ unfolding through flatsThrough
 flats-append [] q so = rw append-nil
 flats-append (a ∷ p) q so = rw (flats-append p q, append-assoc)
 
-pub left-through : {F : Flattening} {done : List Flat} (ps q : List Pending) {so : List Part} → Left F done (ps ++ q) so
-    → Left F (done ++ flatsThrough ps so) (q ++ turnsFrom (length so) (through ps so)) (so ++ through ps so)
+pub left-through : {F : Flattening} {done : List Flat} (ps q : List Pending) {so : List Part} → Left F done (ps ++ q) so →
+    Left F (done ++ flatsThrough ps so) (q ++ turnsFrom (length so) (through ps so)) (so ++ through ps so)
 unfolding through flatsThrough turnsFrom
 left-through [] q l = rw (append-nil, append-nil, append-nil) l
 left-through {F} {done} (p ∷ ps) q {so} l =
@@ -167,8 +186,8 @@ left-axioms T s =
     (left-through {done = []} (pendings s) [] {so = nameParts T} (rw append-nil (left-start T s)))
 
 -- the turn of part j
-pub left-turn : {F : Flattening} {done : List Flat} {so : List Part} (j : ℕ) → j < length so → Left F done (turnsFrom j (drop j so)) so
-    → let so′ : List Part = so ++ through (turnOf j (partAt so j)) so in
+pub left-turn : {F : Flattening} {done : List Flat} {so : List Part} (j : ℕ) → j < length so → Left F done (turnsFrom j (drop j so)) so →
+    let so′ : List Part = so ++ through (turnOf j (partAt so j)) so in
     Left F (done ++ flatsThrough (turnOf j (partAt so j)) so) (turnsFrom (suc j) (drop (suc j) so′)) so′
 unfolding turnsFrom
 left-turn {F} {done} {so} j h l =
@@ -183,12 +202,12 @@ turns-beyond : (j : ℕ) (so : List Part) → length so ≤ j → turnsFrom j (d
 unfolding turnsFrom
 turns-beyond j so h = rw (drop-of-length-le so h)
 
-pub left-done : {F : Flattening} {done : List Flat} {so : List Part} (j : ℕ) → Left F done (turnsFrom j (drop j so)) so → length so ≤ j
-    → (F .parts ≡ so) × (F .axioms ≡ done)
+pub left-done : {F : Flattening} {done : List Flat} {so : List Part} (j : ℕ) → Left F done (turnsFrom j (drop j so)) so → length so ≤ j →
+    (F .parts ≡ so) × (F .axioms ≡ done)
 left-done {so = so} j l h = left-end (rw (turns-beyond j so h) at l)
 
-pub left-below : {F : Flattening} {done : List Flat} {so : List Part} (j : ℕ) → Left F done (turnsFrom j (drop j so)) so
-    → j < length (F .parts) → j < length so
+pub left-below : {F : Flattening} {done : List Flat} {so : List Part} (j : ℕ) → Left F done (turnsFrom j (drop j so)) so →
+    j < length (F .parts) → j < length so
 left-below {F} {done} {so} j l h = at (decLt j (length so))
   where
     at : Dec (j < length so) → j < length so
@@ -206,12 +225,16 @@ unfolding axiomsOf
 axioms-append [] b = refl
 axioms-append (n ∷ a) b = rw (axioms-append a b, append-assoc)
 
-pub axioms-next : (ns : List Node) (i : ℕ) → i < length ns → axiomsOf (take (suc i) ns) ≡ axiomsOf (take i ns) ++ axiomOf (getD ns i noNode)
-unfolding axiomsOf
-axioms-next ns i h = rw (take-suc ns i noNode h, axioms-append, append-nil)
+axioms-next : (ns : List Node) (i : ℕ) → axiomsOf (take (suc i) ns) ≡ axiomsOf (take i ns) ++ axiomOf (getD ns i noNode)
+unfolding axiomsOf axiomOf
+axioms-next [] zero = refl
+axioms-next [] (suc i) = refl
+axioms-next (n ∷ ns) zero = rw append-nil
+axioms-next (n ∷ ns) (suc i) = rw (axioms-next ns i, append-assoc)
 
-pub pendings-next : (ns : List Node) (i : ℕ) → i < length ns → pendings (axiomsOf (take (suc i) ns)) ≡ pendings (axiomsOf (take i ns)) ++ axiomTurn ns i
-pendings-next ns i h = rw (axioms-next ns i h, pendings-append)
+-- the axioms of one record more
+pub pendings-step : (ns : List Node) (i : ℕ) → pendings (axiomsOf (take (i + 1) ns)) ≡ pendings (axiomsOf (take i ns)) ++ axiomTurn ns i
+pendings-step ns i = rw (add-one, axioms-next ns i, pendings-append)
 
 -- The code's order: the axioms first, then the turns of the parts with numbers below j.
 unfoldable pub axiomsFirst : ℕ → List Axiom → Flattening

@@ -1,16 +1,17 @@
 -- Laws of the scan: what a record without fault gives, and the loop's invariant.
 use Prim.Native.Nat.{ℕ, zero, suc, _+_, _-_, _≤_, _<_}
 use mathlib.Core.Path.{_≡_, sym, ap, _∙_}
-use mathlib.Core.Bool.{Bool, false}
+use mathlib.Core.Bool.{Bool, true, false, cond}
 use mathlib.Core.List.{List, [], _∷_, _++_}
 use lib.ListN.{length, getD}
+use lib.Dec.{eqb}
 use native.Mathlib.Omega.{arith}
 use borrow.Author.Tests.{ne-eqb, lt-ltb, le-ltb}
 use Rattle.tbox.specs.declared.records.Entry.{Entry}
 use Rattle.tbox.specs.declared.records.Shape.{Shape}
 use Rattle.tbox.specs.declared.records.Progress.{Progress}
 use Rattle.tbox.specs.declared.records.Stepped.{Stepped}
-use Rattle.tbox.specs.Shapes.{shapeOf}
+use Rattle.tbox.specs.Shapes.{within, shapeOf, isLeaf}
 use Rattle.tbox.specs.Scan.{State, refused, whole, name, vacuousOf, namesAfter, rolesAfter, recordFault, recordAfter, after, bodyByte, scan, scanSheet}
 use Rattle.tbox.specs.Tables.{seen, view, Body, Appended, Took}
 use Rattle.tbox.proofs.Entries.{seen-none}
@@ -19,32 +20,40 @@ pub took-fault : (sheet t u : List ℕ) (p q : Progress) (f : ℕ) → f ≡ rec
     Took sheet t p u (record { fault = f; progress = q })
 took-fault sheet t u p q f e n = record { fault = e; state = λ z. absurd (n z); count = λ z. absurd (n z); within = λ z. absurd (n z) }
 
-abbrev entered : ℕ → ℕ → ℕ → Bool → Entry
-entered k a b v = record { kind = k; first = a; second = b; named = false; vacuous = v }
+abbrev entered : ℕ → ℕ → ℕ → Bool → ℕ → Bool → Entry
+entered k a b v s l = record { kind = k; first = a; second = b; named = false; vacuous = v; sort = s; leaf = l }
+
+-- a shape's sort is below 4
+pub sort-small : (k : ℕ) (s : Shape) → s ≡ shapeOf k → s .sort < 4
+unfolding shapeOf
+sort-small k s e = rw e (pick _ _ (within 0x01 0x02 k) (omega arith) (pick _ _ (eqb k 0x03) (omega arith) (pick _ _ (eqb k 0x04) (omega arith) (pick _ _ (within 0x05 0x06 k) (omega arith) (pick _ _ (within 0x07 0x08 k) (omega arith) (pick _ _ (within 0x10 0x11 k) (omega arith) (pick _ _ (eqb k 0x12) (omega arith) (pick _ _ (within 0x13 0x14 k) (omega arith) (pick _ _ (eqb k 0x20) (omega arith) (omega arith))))))))))
+  where
+    pick : (x y : Shape) (b : Bool) → x .sort < 4 → y .sort < 4 → cond b x y .sort < 4
+    pick x y true p q = p
+    pick x y false p q = q
 
 -- the state after a record, put together from its parts
-after-is : (st : State) (k a b at names roles : ℕ) (s : Shape) (v : Bool) (rs : List Entry) → s ≡ shapeOf k → v ≡ vacuousOf (st .records) k a b →
-    names ≡ namesAfter (st .names) k a → roles ≡ rolesAfter (st .roles) k a →
-    rs ≡ name (name (st .records) (s .first) a) (s .second) b ++ (entered k a b v ∷ []) → at ≡ st .at + 1 + s .body →
+after-is : (st : State) (k a b at names roles : ℕ) (s : Shape) (v l : Bool) (rs : List Entry) → s ≡ shapeOf k → v ≡ vacuousOf (st .records) k a b →
+    l ≡ isLeaf s → names ≡ namesAfter (st .names) k a → roles ≡ rolesAfter (st .roles) k a →
+    rs ≡ name (name (st .records) (s .first) a) (s .second) b ++ (entered k a b v (s .sort) l ∷ []) → at ≡ st .at + 1 + s .body →
     _≡_ {A = State} (record { at = at; records = rs; names = names; roles = roles }) (after st k a b)
 unfolding after
-after-is st k a b at names roles s v rs ps pv pn pl pr pa = rw (pa, pr, pv, pn, pl, ps)
+after-is st k a b at names roles s v l rs ps pv pf pn pl pr pa = rw (pa, pr, pv, pf, pn, pl, ps)
 
--- a record without fault: from the table t to u by its body, from u to w by itself
-pub took-next : (sheet t u w : List ℕ) (p q : Progress) (s : Shape) (a b f : ℕ) (v : Bool) → s ≡ shapeOf (getD sheet (p .at) 0) →
+-- a record of kind k without fault: from the table t to u by its body, from u to w by itself
+pub took-next : (sheet t u w : List ℕ) (p q : Progress) (k : ℕ) (s : Shape) (a b f : ℕ) (v l : Bool) → k ≡ getD sheet (p .at) 0 → s ≡ shapeOf k →
     f ≡ recordFault sheet (view t p) → f ≡ 0 → a ≡ bodyByte sheet (p .at) s 1 → b ≡ bodyByte sheet (p .at) s 2 →
-    v ≡ vacuousOf (seen t (p .count)) (getD sheet (p .at) 0) a b → Body t (p .count) s a b u f →
-    Appended u p (entered (getD sheet (p .at) 0) a b v) (s .body) w q → p .at < length sheet → s .body ≤ length sheet - (p .at + 1) →
-    Took sheet t p w (record { fault = 0; progress = q })
+    v ≡ vacuousOf (seen t (p .count)) k a b → l ≡ isLeaf s → Body t (p .count) s a b u f → Appended u p (entered k a b v (s .sort) l) (s .body) w q →
+    p .at < length sheet → s .body ≤ length sheet - (p .at + 1) → Took sheet t p w (record { fault = 0; progress = q })
 unfolding recordAfter
-took-next sheet t u w p q s a b f v ps pf z pa pb pv o h l d =
+took-next sheet t u w p q k s a b f v l pk ps pf z pa pb pv pl o h i d =
     record { fault = sym z ∙ pf; state = λ e. next; count = λ e. h .count; within = λ e. omega (arith, h .at) }
   where
-    rs : seen w (q .count) ≡ name (name (seen t (p .count)) (s .first) a) (s .second) b ++ (entered (getD sheet (p .at) 0) a b v ∷ [])
-    rs = h .records ∙ ap (λ (x : List Entry). x ++ (entered (getD sheet (p .at) 0) a b v ∷ [])) (o .records z)
+    rs : seen w (q .count) ≡ name (name (seen t (p .count)) (s .first) a) (s .second) b ++ (entered k a b v (s .sort) l ∷ [])
+    rs = h .records ∙ ap (λ (x : List Entry). x ++ (entered k a b v (s .sort) l ∷ [])) (o .records z)
 
     next : view w q ≡ recordAfter sheet (view t p)
-    next = after-is (view t p) _ a b _ _ _ s v _ ps pv (h .names) (h .roles) rs (h .at) ∙ rw (pa, pb, ps)
+    next = after-is (view t p) k a b _ _ _ s v l _ ps pv pl (h .names) (h .roles) rs (h .at) ∙ rw (pa, pb, ps, pk)
 
 pub later : (sheet t u : List ℕ) (p q : Progress) → view u q ≡ recordAfter sheet (view t p) → p .at < q .at
 unfolding recordAfter after

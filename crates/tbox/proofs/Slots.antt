@@ -1,19 +1,19 @@
 -- Laws on the bytes of parts in a lent list.
-use Prim.Native.Nat.{ℕ, zero, suc, _+_, _*_, _-_, _/_, _%_, _≤_, _<_}
+use Prim.Native.Nat.{ℕ, suc, _+_, _*_, _≤_, _<_}
 use mathlib.Core.Path.{_≡_, refl, sym, ap, _∙_}
-use mathlib.Core.Bool.{Bool, true, false}
 use mathlib.Core.List.{List, [], _∷_, _++_, append-assoc}
 use lib.ListN.{length, getD, take, drop, set, length-append, length-drop}
 use lib.Seq.{take-suc, take-at, drop-at, drop-drop, length-take-le}
 use native.Mathlib.Omega.{arith}
+use native.Mathlib.Nat.{zero-add}
 use native.Mathlib.Numerals.{add-one}
-use native.Mathlib.Nat.{add-zero, add-suc}
 use Rattle.tbox.specs.declared.records.Entry.{Entry}
-use Rattle.tbox.specs.Normal.{Tag}
-use Rattle.tbox.specs.Flatten.{Part, nameP, freshP, existsP, forallP, partAt}
-use Rattle.tbox.specs.Answers.{oddNo, partBytes, bytesOf}
-use Rattle.tbox.specs.Tables.{partWord, Stands, Stood, slotBytes, slotsOf}
+use Rattle.tbox.specs.Flatten.{Part, partAt}
+use Rattle.tbox.specs.Answers.{bytesOf}
+use Rattle.tbox.specs.Tables.{Stands, Stood, slotBytes, slotsOf}
+use Rattle.tbox.proofs.Standing.{stand-bytes}
 
+-- three bytes written
 pub three : (xs : List ℕ) (a b c : ℕ) → length xs ≡ 3 → set (set (set xs 0 a) 1 b) 2 c ≡ a ∷ b ∷ c ∷ []
 three [] a b c e = absurd (omega arith)
 three (x ∷ []) a b c e = absurd (omega arith)
@@ -21,53 +21,20 @@ three (x ∷ y ∷ []) a b c e = absurd (omega arith)
 three (x ∷ y ∷ z ∷ []) a b c e = refl
 three (x ∷ y ∷ z ∷ w ∷ l) a b c e = absurd (omega arith)
 
--- a part's word taken apart
-pub word-kind : (x kind odd number : ℕ) → x ≡ partWord kind odd number → kind < 4 → x % 4 ≡ kind
-word-kind x kind odd number e a = omega arith
-
-pub word-odd : (x kind odd number : ℕ) → x ≡ partWord kind odd number → kind < 4 → odd < 2 → x / 4 % 2 ≡ odd
-word-odd x kind odd number e a b = omega arith
-
-pub word-number : (x kind odd number : ℕ) → x ≡ partWord kind odd number → kind < 4 → odd < 2 → number < 256 → x / 8 % 256 ≡ number
-word-number x kind odd number e a b c = omega arith
-
-pub odd-low : (g : Tag) → oddNo g < 2
-odd-low g = go (g .odd)
-  where
-    go : (b : Bool) → mathlib.Core.Bool.cond b 1 0 < 2
-    go true = omega arith
-    go false = omega arith
-
-word-bytes : (x kind odd number : ℕ) → x ≡ partWord kind odd number → kind < 4 → odd < 2 → number < 256 → slotBytes x ≡ kind ∷ number ∷ odd ∷ []
-unfolding slotBytes
-word-bytes x kind odd number e a b c = rw (word-kind x kind odd number e a, word-number x kind odd number e a b c, word-odd x kind odd number e a b)
-
-pub stand-bytes : (es : List Entry) (k x : ℕ) (p : Part) → Stands es k x p → slotBytes x ≡ partBytes p
-unfolding partBytes
-stand-bytes es k x (nameP t) h = word-bytes x 0 0 t (h .0) (omega arith) (omega arith) (h .1)
-stand-bytes es k x (freshP g c) h = word-bytes x 1 (oddNo g) (g .filler) (h .0) (omega arith) (odd-low g) (h .1)
-stand-bytes es k x (existsP g u f) h = word-bytes x 2 (oddNo g) (g .source) (h .0) (omega arith) (odd-low g) (h .1 .byte)
-stand-bytes es k x (forallP g u f) h = word-bytes x 3 (oddNo g) (g .source) (h .0) (omega arith) (odd-low g) (h .1 .byte)
-
+-- the bytes of words that stand for parts
 slots-from : (es : List Entry) (k : ℕ) (xs : List ℕ) (ps : List Part) → length ps ≤ length xs →
     ((i : ℕ) → i < length ps → Stands es (k + i) (getD xs i 0) (partAt ps i)) → slotsOf (take (length ps) xs) ≡ bytesOf ps
 unfolding slotsOf bytesOf
 slots-from es k xs [] l h = refl
 slots-from es k [] (p ∷ ps) l h = absurd (omega arith)
 slots-from es k (x ∷ xs) (p ∷ ps) l h =
-    rw (stand-bytes es (k + 0) x p (h 0 (omega arith)), slots-from es (suc k) xs ps (omega arith) (λ i j. next i (h (suc i) (omega arith))))
+    rw (stand-bytes es (k + 0) x p (h 0 (omega arith)), slots-from es (suc k) xs ps (omega arith) (λ i j. rw (next i) (h (suc i) (omega arith))))
   where
-    next : (i : ℕ) → Stands es (k + suc i) (getD xs i 0) (partAt ps i) → Stands es (suc k + i) (getD xs i 0) (partAt ps i)
-    next i s = rw shift s
-      where
-        shift : suc k + i ≡ k + suc i
-        shift = omega arith
+    next : (i : ℕ) → suc k + i ≡ k + suc i
+    next i = omega arith
 
 pub slots-bytes : (es : List Entry) (xs : List ℕ) (ps : List Part) → length ps ≤ length xs → Stood es xs ps → slotsOf (take (length ps) xs) ≡ bytesOf ps
-slots-bytes es xs ps l h = slots-from es 0 xs ps l (λ i j. rw zero-plus (h i j))
-  where
-    zero-plus : {i : ℕ} → 0 + i ≡ i
-    zero-plus {i} = omega arith
+slots-bytes es xs ps l h = slots-from es 0 xs ps l (λ i j. rw zero-add (h i j))
 
 slot-length : (x : ℕ) → length (slotBytes x) ≡ 3
 unfolding slotBytes

@@ -1,4 +1,4 @@
--- The worked sheets are as the table has them. Assumes nothing.
+-- The worked sheets are as the table has them.
 use mathlib.Core.Path.{_≡_, refl}
 use mathlib.Core.List.{map}
 use Rattle.tbox.specs.Shapes.{shapeOf, isLeaf, isRestriction}

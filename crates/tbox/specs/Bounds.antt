@@ -1,7 +1,8 @@
--- The name and role numbers of concepts and axioms, and the roles of their restrictions.
+-- The name and role numbers of concepts and axioms, and the roles of their restrictions; the roles and fillers of parts.
 use Prim.Native.Nat.{ℕ, _<_}
 use mathlib.Core.List.{List, [], _∷_}
 use Rattle.tbox.specs.Concepts.{Role, named, inverse, notR, andR, orR, Concept, topC, bottomC, nameC, notC, andC, orC, existsC, forallC, Axiom}
+use Rattle.tbox.specs.Flatten.{Filler, everything, nothing, part, Part, nameP, freshP, existsP, forallP}
 
 -- all roles of a role expression are below L
 abbrev pub RolesBelow : ℕ → Role → Type 0
@@ -33,9 +34,6 @@ EachRole Q (orC c d) = EachRole Q c × EachRole Q d
 EachRole Q (existsC r f u c) = Q u × EachRole Q c
 EachRole Q (forallC r f u c) = Q u × EachRole Q c
 
-abbrev pub ConceptRolesBelow : ℕ → Concept → Type 0
-ConceptRolesBelow L c = EachRole (RolesBelow L) c
-
 -- the same of axioms
 abbrev pub AxiomNames : ℕ → List Axiom → Type 0
 AxiomNames T [] = Unit
@@ -49,3 +47,42 @@ AxiomRoles Q (a ∷ s) = EachRole Q (a .left) × EachRole Q (a .right) × AxiomR
 pub record AxiomsBelow (T L : ℕ) (s : List Axiom) : Type 0 where
   pub names : AxiomNames T s
   pub roles : AxiomRoles (RolesBelow L) s
+
+-- a property of the role of a restriction part
+abbrev pub PartRole : (Role → Type 0) → Part → Type 0
+PartRole Q (nameP t) = Unit
+PartRole Q (freshP g c) = Unit
+PartRole Q (existsP g u f) = Q u
+PartRole Q (forallP g u f) = Q u
+
+-- a property of its filler
+abbrev pub PartFiller : (Filler → Type 0) → Part → Type 0
+PartFiller P (nameP t) = Unit
+PartFiller P (freshP g c) = Unit
+PartFiller P (existsP g u f) = P f
+PartFiller P (forallP g u f) = P f
+
+-- a filler that is a part has its number below c
+abbrev pub FillerLow : ℕ → Filler → Type 0
+FillerLow c everything = Unit
+FillerLow c nothing = Unit
+FillerLow c (part j) = j < c
+
+abbrev pub PartLow : ℕ → Part → Type 0
+PartLow c p = PartFiller (FillerLow c) p
+
+-- a name or a fresh part
+abbrev pub Plain : Part → Type 0
+Plain (nameP t) = Unit
+Plain (freshP g c) = Unit
+Plain (existsP g u f) = ⊥
+Plain (forallP g u f) = ⊥
+
+-- a filler that is a part is plain, where part j is m j
+abbrev pub FillerPlain : (ℕ → Part) → Filler → Type 0
+FillerPlain m everything = Unit
+FillerPlain m nothing = Unit
+FillerPlain m (part j) = Plain (m j)
+
+abbrev pub PartPlain : (ℕ → Part) → Part → Type 0
+PartPlain m p = PartFiller (FillerPlain m) p

@@ -6,6 +6,7 @@ pub mod Flatten
 pub mod Truth
 pub mod Reading
 pub mod Answers
+pub mod Promise
 pub mod Examples
 pub mod Bounds
 pub mod Order

@@ -10,7 +10,7 @@ use Rattle.tbox.specs.Shapes.{shapeOf, isLeaf, isRestriction}
 
 -- what has been read: the byte where the next record starts, the records, and one more than the largest number of a name
 -- (01 calls it a trait) and of a role (a link). A record is its kind, its two body bytes (0 where there is none), whether a
--- later record names it, and whether it is a role that holds on the empty role set.
+-- later record names it, whether it is a role that holds on the empty role set, its sort, and whether it is a leaf.
 pub record State : Type 0 where
   pub at : ℕ
   pub records : List Entry
@@ -22,7 +22,7 @@ start = record { at = 0; records = []; names = 0; roles = 0 }
 
 -- what stands past the end of the records
 abbrev pub blank : Entry
-blank = record { kind = 0; first = 0; second = 0; named = false; vacuous = false }
+blank = record { kind = 0; first = 0; second = 0; named = false; vacuous = false; sort = 0; leaf = false }
 
 abbrev pub recordAt : List Entry → ℕ → Entry
 recordAt es r = getD es r blank
@@ -41,18 +41,18 @@ sortFault wanted found = cond (eqb found wanted) 0 6
 
 -- 7: already named once and not allowed again
 abbrev pub againFault : Entry → ℕ
-againFault e = cond (e .named && not (isLeaf (shapeOf (e .kind)))) 7 0
+againFault e = cond (e .named && not (e .leaf)) 7 0
 
 -- a reference r of a wanted sort (0: no reference): 5, not an earlier record; then 6; then 7
 unfoldable pub referenceFault : List Entry → ℕ → ℕ → ℕ
 referenceFault es wanted r =
     cond (eqb wanted 0) 0
     (cond (leb (length es) r) 5
-    (orElse (sortFault wanted (shapeOf (recordAt es r .kind) .sort)) (againFault (recordAt es r))))
+    (orElse (sortFault wanted (recordAt es r .sort)) (againFault (recordAt es r))))
 
 -- the records after r has been named
 abbrev pub naming : Entry → Entry
-naming e = record { kind = e .kind; first = e .first; second = e .second; named = true; vacuous = e .vacuous }
+naming e = record { kind = e .kind; first = e .first; second = e .second; named = true; vacuous = e .vacuous; sort = e .sort; leaf = e .leaf }
 
 unfoldable pub name : List Entry → ℕ → ℕ → List Entry
 name es wanted r = cond (eqb wanted 0) es (set es r (naming (recordAt es r)))
@@ -78,7 +78,16 @@ vacuousOf es k a b =
     false))
 
 abbrev pub entryFor : List Entry → ℕ → ℕ → ℕ → Entry
-entryFor es k a b = record { kind = k; first = a; second = b; named = false; vacuous = vacuousOf es k a b }
+entryFor es k a b =
+    record {
+      kind = k;
+      first = a;
+      second = b;
+      named = false;
+      vacuous = vacuousOf es k a b;
+      sort = shapeOf k .sort;
+      leaf = isLeaf (shapeOf k);
+    }
 
 -- "one more than the largest trait number in the sheet, or 0", and the same for links, after a record
 unfoldable pub namesAfter : ℕ → ℕ → ℕ → ℕ

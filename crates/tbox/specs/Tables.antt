@@ -14,8 +14,6 @@ use Rattle.tbox.specs.declared.records.Stepped.{Stepped}
 use Rattle.tbox.specs.declared.records.Scanned.{Scanned}
 use Rattle.tbox.specs.declared.truth.Valued.{Valued}
 use Rattle.tbox.specs.declared.Admitted.{Admitted}
-use Rattle.tbox.specs.declared.base.Base.{Base}
-use Rattle.tbox.specs.declared.base.Loaded.{Loaded}
 use Rattle.tbox.specs.Scan.{State, Scanning, refused, whole, recordAt, name, bodyFault, namesAfter, rolesAfter, recordFault, recordAfter}
 use Rattle.tbox.specs.Concepts.{Role, Concept, conceptAt, roleAt, nodesOf, axiomsOf}
 use Rattle.tbox.specs.Normal.{Tag, Nf, plain, negated}
@@ -23,10 +21,10 @@ use Rattle.tbox.specs.Flatten.{Filler, everything, nothing, part, Part, 
 use Rattle.tbox.specs.Order.{through, flatsThrough, turnOf}
 use Rattle.tbox.specs.Truth.{eval, kbOn, roleOn}
 use Rattle.tbox.specs.Reading.{Kb, Reading, refusal, kb, flatsOf, partsOf, readKb}
-use Rattle.tbox.specs.Answers.{oddNo}
+use Rattle.tbox.specs.Answers.{limit, oddNo}
 use Rattle.bitset.specs.Bits.{bit}
 
--- a record's word: kind, first and second byte, named, vacuous
+-- a record's word: kind, first and second byte, named, vacuous, sort, leaf
 abbrev pub flag : Bool → ℕ
 flag b = cond b 1 0
 
@@ -38,6 +36,8 @@ entryOf w =
       second = w / 65536 % 256;
       named = eqb (w / 16777216 % 2) 1;
       vacuous = eqb (w / 33554432 % 2) 1;
+      sort = w / 67108864 % 4;
+      leaf = eqb (w / 268435456 % 2) 1;
     }
 
 -- the records that are counted
@@ -92,6 +92,10 @@ atomNo none = 258
 pub record AtomIs (o : Option Filler) (f : ℕ) : Type 0 where
   pub is : f ≡ atomNo o
   pub byte : (t : ℕ) → o ≡ some (part t) → t < 256
+
+-- the filler's number in the flattened knowledge base, off that, for part i: 254 everything, 255 nothing, else a part's
+abbrev pub fillerCode : ℕ → ℕ → ℕ
+fillerCode f i = cond (eqb f 256) 254 (cond (eqb f 257) 255 (cond (eqb f 258) (i + 1) (f % 256)))
 
 -- a part's word: kind, odd, number
 abbrev pub partWord : ℕ → ℕ → ℕ → ℕ
@@ -196,51 +200,3 @@ pub record Admits (limit : ℕ) (sheet table parts′ : List ℕ) (r : Admitted)
   pub records : r .count ≤ 255
   pub held : r .fault ≡ 0 → Held limit (seen table (r .count)) parts′ (r .parts) (partsOf (kbAdmitted table r))
   pub small : r .fault ≡ 0 → r .parts + r .roles ≤ limit
-
--- The promise of the reader to the layers above.
-
--- a part's kind: 0 name, 1 fresh, 2 existential, 3 universal
-unfoldable pub kindOf : Part → ℕ
-kindOf (nameP t) = 0
-kindOf (freshP g c) = 1
-kindOf (existsP g u f) = 2
-kindOf (forallP g u f) = 3
-
--- a filler: a part's number, 254 everything, 255 nothing
-unfoldable pub fillerNo : Filler → ℕ
-fillerNo (part k) = k
-fillerNo everything = 254
-fillerNo nothing = 255
-
--- the same off `atomNo`, for part i
-abbrev pub fillerCode : ℕ → ℕ → ℕ
-fillerCode f i = cond (eqb f 256) 254 (cond (eqb f 257) 255 (cond (eqb f 258) (i + 1) (f % 256)))
-
--- a restriction's filler; 0 for a name
-unfoldable pub fillerOf : Part → ℕ
-fillerOf (nameP t) = 0
-fillerOf (freshP g c) = 0
-fillerOf (existsP g u f) = fillerNo f
-fillerOf (forallP g u f) = fillerNo f
-
--- the role sets on which a restriction's role expression holds; none for a name
-unfoldable pub roleHolds : Part → ℕ → Bool
-roleHolds (nameP t) R = false
-roleHolds (freshP g c) R = false
-roleHolds (existsP g u f) R = roleOn u R
-roleHolds (forallP g u f) R = roleOn u R
-
--- b is the flattened knowledge base k
-pub record Flattened (k : Kb) (b : Base) : Type 0 where
-  pub names : b .names ≡ k .names
-  pub roles : b .roles ≡ k .roles
-  pub parts : b .parts ≡ length (partsOf k)
-  pub small : b .parts + b .roles ≤ 12
-  pub kind : (i : ℕ) → i < b .parts → getD (b .kind) i 0 ≡ kindOf (partAt (partsOf k) i)
-  pub filler : (i : ℕ) → i < b .parts → getD (b .filler) i 0 ≡ fillerOf (partAt (partsOf k) i)
-  pub role : (i w : ℕ) → i < b .parts → w < 4 → getD (b .role) (4 * i + w) 0 ≡ wordAt (roleHolds (partAt (partsOf k) i)) w
-  pub good : (w : ℕ) → 64 * w < 2 ^ b .parts → getD (b .good) w 0 ≡ wordAt (kbOn (flatsOf k)) w
-
-pub record Loads (sheet : List ℕ) (r : Loaded) : Type 0 where
-  pub refused : (r .fault ≡ 0 → ⊥) → readKb 12 sheet ≡ refusal (r .fault) (r .place)
-  pub read : r .fault ≡ 0 → (k : Kb) × (readKb 12 sheet ≡ kb k) × Flattened k (r .base)

@@ -36,7 +36,12 @@ fn found(fault: u8, place: usize, p: records::Progress, parts: usize) -> Admitte
 }
 
 // Reads a sheet into a table of records and a table of parts; parts and roles together are at most the limit.
-pub fn admit(sheet: &[u8], table: &mut [u32; 255], parts: &mut [u16; 20], limit: usize) -> Admitted
+pub(crate) fn admit(
+    sheet: &[u8],
+    table: &mut [u32; 255],
+    parts: &mut [u16; 20],
+    limit: usize,
+) -> Admitted
     requires { ⌜ limit ≤ 20 ⌝ }
     ensures { λ r. ⌜ Admits limit (now (sheet .entry)) (now (table .exit)) (now (parts .exit)) r ⌝ }
 {

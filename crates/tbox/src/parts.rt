@@ -14,7 +14,7 @@ use crate::records::record_at;
 
 // The normal form of record r, of those below a number, as a filler: a name's number, 256 everything, 257 nothing, 258 for
 // one that needs a fresh name.
-pub fn plain_atom(table: &[u32; 255], count: usize, r: u8, below: usize) -> usize
+pub(crate) fn plain_atom(table: &[u32; 255], count: usize, r: u8, below: usize) -> usize
     requires { ⌜ count ≤ 255 ⌝ }
     ensures { λ f. ⌜ AtomIs (atom (plain (conceptBelow (seen (now (table .entry)) count) below r))) f ⌝ }
 {
@@ -35,7 +35,7 @@ pub fn plain_atom(table: &[u32; 255], count: usize, r: u8, below: usize) -> usiz
 }
 
 // The same under a not.
-pub fn negated_atom(table: &[u32; 255], count: usize, r: u8, below: usize) -> usize
+pub(crate) fn negated_atom(table: &[u32; 255], count: usize, r: u8, below: usize) -> usize
     requires { ⌜ count ≤ 255 ⌝ }
     ensures { λ f. ⌜ AtomIs (atom (negated (conceptBelow (seen (now (table .entry)) count) below r))) f ⌝ }
 {
@@ -264,7 +264,7 @@ fn turn(
 }
 
 // The parts of a knowledge base whose names are so many; a count above the limit says that there are too many.
-pub fn flatten(
+pub(crate) fn flatten(
     table: &[u32; 255],
     count: usize,
     names: usize,

@@ -1,9 +1,9 @@
 // Reads a sheet record by record into a table of words, one a record, or finds its first fault.
 ghost use mathlib.Core.Path.{_≡_};
 ghost use Prim.Native.Nat.{_+_, _<_, _≤_, _^_, max};
-ghost use lib.ListN.{length};
+ghost use lib.ListN.{length, getD};
 ghost use Rattle.tbox.specs.Shapes.{shaped, shapeOf, isLeaf, isRestriction};
-ghost use Rattle.tbox.specs.Scan.{recordAt, orElse, numberFault, sortFault, againFault, referenceFault, name, emptyFault, bodyFault, vacuousOf, namesAfter, rolesAfter, bodyByte, scanSheet};
+ghost use Rattle.tbox.specs.Scan.{recordAt, orElse, numberFault, sortFault, againFault, referenceFault, naming, name, emptyFault, bodyFault, vacuousOf, namesAfter, rolesAfter, bodyByte, scanSheet};
 ghost use Rattle.tbox.specs.Tables.{entryOf, seen, view, flag, Body, Appended, Took, scanningOf};
 
 // What a kind byte decides. Sorts: 0 none, 1 concept, 2 role, 3 axiom.
@@ -19,14 +19,18 @@ pub struct Shape {
     pub second: u8,
 }
 
-// A record: its kind and body bytes, whether a later record names it, and whether it is a role that holds on the empty
-// role set.
+// A record: its kind and body bytes, whether a later record names it, whether it is a role that holds on the empty role
+// set, and two facts of its kind's shape.
 pub struct Entry {
     pub kind: u8,
     pub first: u8,
     pub second: u8,
     pub named: bool,
     pub vacuous: bool,
+    // 1 concept, 2 role, 3 axiom.
+    pub sort: u8,
+    // Has no references, and may be named often.
+    pub leaf: bool,
 }
 
 // How far reading has come: records, the next one's place, and one more than the largest number of a name and of a role.
@@ -60,7 +64,8 @@ fn new_shape(sort: u8, body: u8, limit: u8, first: u8, second: u8) -> Shape
     }
 }
 
-pub fn shape_of(kind: u8) -> Shape
+// The table of kinds: sort, length of the body, limit of the number in it, sorts of the references.
+fn shape_of(kind: u8) -> Shape
     ensures { λ r. ⌜ r ≡ shapeOf kind ⌝ }
 {
     match kind {
@@ -83,11 +88,15 @@ fn flag_of(b: bool) -> u32
     if b { 1 } else { 0 }
 }
 
-// A record's word: its kind, its two body bytes, named, vacuous.
+// A record's word: its kind, its two body bytes, named, vacuous, sort, leaf.
 fn word_of(e: Entry) -> u32
+    requires { ⌜ e .sort < 4 ⌝ }
     ensures { λ r. ⌜ entryOf r ≡ e ⌝ }
 {
-    let flags = flag_of(e.named) + 2 * flag_of(e.vacuous);
+    let flags = flag_of(e.named)
+        + 2 * flag_of(e.vacuous)
+        + 4 * (e.sort as u32)
+        + 16 * flag_of(e.leaf);
     (e.kind as u32) + 256 * (e.first as u32) + 65536 * (e.second as u32) + 16777216 * flags
 }
 
@@ -100,11 +109,20 @@ fn entry_of(w: u32) -> Entry
         second: (w / 65536 % 256) as u8,
         named: w / 16777216 % 2 == 1,
         vacuous: w / 33554432 % 2 == 1,
+        sort: (w / 67108864 % 4) as u8,
+        leaf: w / 268435456 % 2 == 1,
     }
 }
 
+// The word of a record, with the note that it is named.
+fn named_word(w: u32) -> u32
+    ensures { λ r. ⌜ entryOf r ≡ naming (entryOf w) ⌝ }
+{
+    w + 16777216 * (1 - w / 16777216 % 2)
+}
+
 // Record r, or a blank one where there is none.
-pub fn record_at(table: &[u32; 255], count: usize, r: u8) -> Entry
+pub(crate) fn record_at(table: &[u32; 255], count: usize, r: u8) -> Entry
     requires { ⌜ count ≤ 255 ⌝ }
     ensures { λ e. ⌜ e ≡ recordAt (seen (now (table .entry)) count) r ⌝ }
 {
@@ -118,6 +136,8 @@ pub fn record_at(table: &[u32; 255], count: usize, r: u8) -> Entry
         second: 0,
         named: false,
         vacuous: false,
+        sort: 0,
+        leaf: false,
     }
 }
 
@@ -128,7 +148,7 @@ fn words(s: &[u32]) -> usize
 }
 
 // Does nothing: of an array behind a reference the length is known only where it is lent as a slice.
-pub fn sized(table: &[u32; 255])
+fn sized(table: &[u32; 255])
     ensures { λ _. ⌜ length (now (table .entry)) ≡ 255 ⌝ }
 {
     words(table);
@@ -171,8 +191,7 @@ fn again_fault(e: Entry) -> u8
     ensures { λ f. ⌜ f ≡ againFault e ⌝ }
 {
     if e.named {
-        let s = shape_of(e.kind);
-        if is_leaf(s) {
+        if e.leaf {
             return 0;
         }
         return 7;
@@ -200,8 +219,7 @@ fn reference_fault(table: &[u32; 255], count: usize, sort: u8, r: u8) -> u8
     }
     sized(table);
     let e = record_at(table, count, r);
-    let s = shape_of(e.kind);
-    let f = sort_fault(sort, s.sort);
+    let f = sort_fault(sort, e.sort);
     let g = again_fault(e);
     or_else(f, g)
 }
@@ -218,14 +236,7 @@ fn name_record(table: &mut [u32; 255], count: usize, sort: u8, r: u8)
     if count <= i {
         return;
     }
-    let e = entry_of(table[i]);
-    table[i] = word_of(Entry {
-        kind: e.kind,
-        first: e.first,
-        second: e.second,
-        named: true,
-        vacuous: e.vacuous,
-    });
+    table[i] = named_word(table[i]);
 }
 
 fn empty_fault(table: &[u32; 255], count: usize, s: Shape, a: u8) -> u8
@@ -270,18 +281,21 @@ fn vacuous_of(table: &[u32; 255], count: usize, k: u8, a: u8, b: u8) -> bool
     requires { ⌜ count ≤ 255 ⌝ }
     ensures { λ v. ⌜ v ≡ vacuousOf (seen (now (table .entry)) count) k a b ⌝ }
 {
-    let e = record_at(table, count, a);
-    let f = record_at(table, count, b);
     if k == 0x12 {
+        let e = record_at(table, count, a);
         return !e.vacuous;
     }
     if k == 0x13 {
+        let e = record_at(table, count, a);
+        let f = record_at(table, count, b);
         if e.vacuous {
             return f.vacuous;
         }
         return false;
     }
     if k == 0x14 {
+        let e = record_at(table, count, a);
+        let f = record_at(table, count, b);
         if e.vacuous {
             return true;
         }
@@ -331,7 +345,7 @@ fn body_byte(sheet: &[u8], at: usize, s: Shape, i: u8) -> u8
 
 // Puts a record, with a body of so many bytes, at the end of the table.
 fn append(table: &mut [u32; 255], p: Progress, e: Entry, body: u8) -> Progress
-    requires { ⌜ (p .count < 255) × (p .at < 2 ^ 63) ⌝ }
+    requires { ⌜ (p .count < 255) × (p .at < 2 ^ 63) × (e .sort < 4) ⌝ }
     ensures { λ q. ⌜ Appended (now (table .entry)) p e body (now (table .exit)) q ⌝ }
 {
     let n = p.count;
@@ -345,13 +359,12 @@ fn append(table: &mut [u32; 255], p: Progress, e: Entry, body: u8) -> Progress
     }
 }
 
-// One record: its fault, or 0 and the progress after it.
-fn step(sheet: &[u8], table: &mut [u32; 255], p: Progress) -> Stepped
-    requires { ⌜ (p .count < 255) × (p .at < length (now sheet)) ⌝ }
+// One record, of kind k: its fault, or 0 and the progress after it.
+fn step_of_kind(sheet: &[u8], table: &mut [u32; 255], p: Progress, k: u8) -> Stepped
+    requires { ⌜ (p .count < 255) × (p .at < length (now sheet)) × (k ≡ getD (now sheet) (p .at) 0) ⌝ }
     ensures { λ r. ⌜ Took (now (sheet .entry)) (now (table .entry)) p (now (table .exit)) r ⌝ }
 {
     let at = p.at;
-    let k = sheet[at];
     let s = shape_of(k);
     if s.sort == 0 {
         return Stepped {
@@ -382,6 +395,8 @@ fn step(sheet: &[u8], table: &mut [u32; 255], p: Progress) -> Stepped
         second: b,
         named: false,
         vacuous: v,
+        sort: s.sort,
+        leaf: is_leaf(s),
     };
     let q = append(table, p, e, s.body);
     Stepped {
@@ -390,8 +405,34 @@ fn step(sheet: &[u8], table: &mut [u32; 255], p: Progress) -> Stepped
     }
 }
 
+// One record. The calls differ in the kind only, which is a constant in each, so that each kind has code of its own.
+fn step(sheet: &[u8], table: &mut [u32; 255], p: Progress) -> Stepped
+    requires { ⌜ (p .count < 255) × (p .at < length (now sheet)) ⌝ }
+    ensures { λ r. ⌜ Took (now (sheet .entry)) (now (table .entry)) p (now (table .exit)) r ⌝ }
+{
+    let at = p.at;
+    let k = sheet[at];
+    match k {
+        0x01 => step_of_kind(sheet, table, p, 0x01),
+        0x02 => step_of_kind(sheet, table, p, 0x02),
+        0x03 => step_of_kind(sheet, table, p, 0x03),
+        0x04 => step_of_kind(sheet, table, p, 0x04),
+        0x05 => step_of_kind(sheet, table, p, 0x05),
+        0x06 => step_of_kind(sheet, table, p, 0x06),
+        0x07 => step_of_kind(sheet, table, p, 0x07),
+        0x08 => step_of_kind(sheet, table, p, 0x08),
+        0x10 => step_of_kind(sheet, table, p, 0x10),
+        0x11 => step_of_kind(sheet, table, p, 0x11),
+        0x12 => step_of_kind(sheet, table, p, 0x12),
+        0x13 => step_of_kind(sheet, table, p, 0x13),
+        0x14 => step_of_kind(sheet, table, p, 0x14),
+        0x20 => step_of_kind(sheet, table, p, 0x20),
+        _ => step_of_kind(sheet, table, p, k),
+    }
+}
+
 // All records: the first fault with its place, or 0 and the progress at the end.
-pub fn scan(sheet: &[u8], table: &mut [u32; 255]) -> Scanned
+pub(crate) fn scan(sheet: &[u8], table: &mut [u32; 255]) -> Scanned
     ensures { λ r. ⌜ (scanningOf (now (table .exit)) r ≡ scanSheet (now (sheet .entry))) × (r .progress .count ≤ 255) ⌝ }
 {
     let mut p = Progress {

@@ -2,39 +2,28 @@ use Rattle.capi.proofs.Laws.{list-refused, list-done}
 use borrow.Author.Needs.{needs}
 use Rattle.capi.proofs.lodhrussi_list_marks.Statement.{statement}
 use Rattle.capi.proofs.lodhrussi_list_marks.Tie as tie
-use Rattle.capi.proofs.lodhrussi_list_marks.Reads as reads
-use Rattle.capi.proofs.lodhrussi_list_marks.Lts as lts
-use Rattle.tbox.proofs.list_marks.Reads as list-marks-reads
 
--- src/lib.rt:41:9
 list-marks-requires : tie.Need-list-marks-requires
 list-marks-requires c κs = search needs
 
--- src/lib.rt:43:29
 enum-known-a : tie.Need-enum-known-a
 enum-known-a c = search needs
 
--- src/lib.rt:45:13
 cast-result : tie.Need-cast-result
 cast-result c = search needs
 
--- src/lib.rt:47:34
 enum-told : tie.Need-enum-told
 enum-told c = search needs
 
--- src/lib.rt:37:1
 same-length : tie.Need-same-length
 same-length c = search needs
 
--- src/lib.rt:37:1
 returns : tie.Need-returns
 returns c = list-refused _ _ _ _ (c .before .before .before .before .before .list-marks .ensures) _ _ _ (c .before .a .given .1)
 
--- src/lib.rt:37:1
 same-length-2 : tie.Need-same-length-2
 same-length-2 c = search needs
 
--- src/lib.rt:37:1
 returns-2 : tie.Need-returns-2
 returns-2 c = list-done _ _ _ _ (c .before .before .before .before .list-marks .ensures) _ _ (c .enum-told .given .1)
 

@@ -2,31 +2,22 @@ use Rattle.capi.proofs.Laws.{read-refused, read-done}
 use borrow.Author.Needs.{needs}
 use Rattle.capi.proofs.lodhrussi_read.Statement.{statement}
 use Rattle.capi.proofs.lodhrussi_read.Tie as tie
-use Rattle.capi.proofs.lodhrussi_read.Reads as reads
-use Rattle.capi.proofs.lodhrussi_read.Lts as lts
-use Rattle.tbox.proofs.read.Reads as read-reads
 
--- src/lib.rt:21:9
 read-requires : tie.Need-read-requires
 read-requires c κs = search needs
 
--- src/lib.rt:23:29
 enum-known-a : tie.Need-enum-known-a
 enum-known-a c = search needs
 
--- src/lib.rt:25:13
 cast-result : tie.Need-cast-result
 cast-result c = search needs
 
--- src/lib.rt:27:26
 enum-known-a-2 : tie.Need-enum-known-a-2
 enum-known-a-2 c = search needs
 
--- src/lib.rt:11:1
 returns : tie.Need-returns
 returns c = read-refused _ _ (c .before .before .before .read .ensures) _ _ _ _ _ _ (c .before .a .given .1)
 
--- src/lib.rt:11:1
 returns-2 : tie.Need-returns-2
 returns-2 c = read-done _ _ (c .before .before .before .read .ensures) _ _ _ _ _ _ _ (c .before .a2 .given .1)
 

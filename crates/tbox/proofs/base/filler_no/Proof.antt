@@ -1,39 +1,30 @@
-use Rattle.tbox.proofs.Basing.{code-top, code-bottom, code-next, code-name}
-use native.Mathlib.Omega.{arith}
-use borrow.Author.Tests.{eq-eqb, ne-eqb}
+-- A filler's number, case by case.
+use mathlib.Core.Path.{refl}
 use borrow.Author.Needs.{needs}
+use borrow.Author.Tests.{ne-eqb}
 use Rattle.tbox.proofs.base.filler_no.Statement.{statement}
 use Rattle.tbox.proofs.base.filler_no.Tie as tie
-use Rattle.tbox.proofs.base.filler_no.Reads as reads
-use Rattle.tbox.proofs.base.filler_no.Lts as lts
 
--- src/base.rt:70:17
 add-result : tie.Need-add-result
 add-result c = search needs
 
--- src/base.rt:70:16
 cast-result : tie.Need-cast-result
 cast-result c = search needs
 
--- src/base.rt:71:14
 cast-result-2 : tie.Need-cast-result-2
 cast-result-2 c = search needs
 
--- src/base.rt:63:1
 returns : tie.Need-returns
-returns c = code-top _ _ (c .match .keys1)
+returns c = rw (c .match .keys1) refl
 
--- src/base.rt:63:1
 returns-2 : tie.Need-returns-2
-returns-2 c = code-bottom _ _ (c .match .keys2)
+returns-2 c = rw (c .match .keys2) refl
 
--- src/base.rt:63:1
 returns-3 : tie.Need-returns-3
-returns-3 c = code-next _ _ (c .match .keys3)
+returns-3 c = rw (c .match .keys3) refl
 
--- src/base.rt:63:1
 returns-4 : tie.Need-returns-4
-returns-4 c = code-name _ _ (c .match .rest .0 .0 .1) (c .match .rest .0 .1) (c .match .rest .1)
+returns-4 c = simp (ne-eqb _ 256 (c .match .rest .0 .0 .1), ne-eqb _ 257 (c .match .rest .0 .1), ne-eqb _ 258 (c .match .rest .1))
 
 pub filler-no-spec : {M : Type 1} → statement M
 filler-no-spec =

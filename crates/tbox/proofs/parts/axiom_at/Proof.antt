@@ -1,6 +1,7 @@
--- `tbox::parts::axiom_at` meets its contract.
-use Rattle.tbox.proofs.Turning.{axiom-adds, axiom-adds-none}
+-- An axiom is (not left) or right; any other record puts nothing on the queue.
 use borrow.Author.Needs.{needs}
+use Rattle.tbox.proofs.Holding.{adds-or}
+use Rattle.tbox.proofs.Turning.{axiom-turn, axiom-quiet, adds-all-same, adds-nothing, adds-whole}
 use Rattle.tbox.proofs.parts.axiom_at.Statement.{statement}
 use Rattle.tbox.proofs.parts.axiom_at.Tie as tie
 
@@ -15,11 +16,12 @@ plain-parts-requires c κs = search needs
 
 returns : tie.Need-returns
 returns c =
-    let s = c .before .before .before .before .before .before .args in
-    axiom-adds _ _ (s .i) (c .before .before .before .before .before .record-at .result) _ _ _ _ _ _ (c .before .before .before .before .before .record-at .ensures) (c .before .before .before .before .if1 .taken) (c .before .before .negated-parts .ensures) (c .plain-parts .ensures)
+    let record-at = c .before .before .before .before .before .record-at in
+    let if1 = c .before .before .before .before .if1 in
+    adds-all-same _ _ _ _ _ _ _ _ (adds-whole _ _ _ _ _ _ _ (adds-or _ _ _ _ _ _ _ _ _ _ (c .before .before .negated-parts .ensures) (c .plain-parts .ensures))) (axiom-turn _ _ _ (record-at .ensures) (if1 .taken))
 
 returns-2 : tie.Need-returns-2
-returns-2 c = axiom-adds-none _ _ (c .before .before .args .i) (c .before .record-at .result) _ _ (c .before .record-at .ensures) (c .if1 .left)
+returns-2 c = adds-all-same _ _ _ _ _ _ _ _ (adds-nothing _ _ _ _) (axiom-quiet _ _ _ (c .before .record-at .ensures) (c .if1 .left))
 
 pub axiom-at-spec : {M : Type 1} → statement M
 axiom-at-spec =

@@ -1,12 +1,14 @@
--- `tbox::parts::axiom_parts` meets its contract. The loop's invariant: the axioms among the records below `i` are gone through.
-use native.Mathlib.Omega.{arith}
+-- The invariant: the axioms of the records before i are gone through.
 use Prim.Native.Nat.{_≤_, _-_}
+use mathlib.Core.Path.{sym}
 use lib.ListN.{take}
+use native.Mathlib.Omega.{arith}
 use Rattle.tbox.specs.Concepts.{nodesOf, axiomsOf}
 use Rattle.tbox.specs.Flatten.{pendings}
-use Rattle.tbox.specs.Order.{axiomTurn}
 use Rattle.tbox.specs.Tables.{seen, AddsAll}
-use Rattle.tbox.proofs.Turning.{all-none, all-then, pendings-step, pendings-all, seen-most}
+use Rattle.tbox.proofs.Entries.{seen-short}
+use Rattle.tbox.proofs.Queue.{pendings-step}
+use Rattle.tbox.proofs.Turning.{adds-all-same, adds-nothing, adds-append, pendings-all}
 use Rattle.tbox.proofs.parts.axiom_parts.Statement.{statement}
 use Rattle.tbox.proofs.parts.axiom_parts.Tie as tie
 
@@ -18,7 +20,7 @@ abbrev μ-loop : tie.MeasureT-loop
 
 loop-holds : tie.Need-loop-holds Inv-loop μ-loop
 unfolding axiomsOf pendings
-loop-holds c = (omega arith, all-none _ _ _ _)
+loop-holds c = (omega arith, adds-nothing _ _ _ _)
 
 cast-loop : tie.Need-cast-loop Inv-loop μ-loop
 cast-loop c = omega arith
@@ -34,16 +36,12 @@ loop-less c = omega arith
 
 loop-again : tie.Need-loop-again Inv-loop μ-loop
 loop-again c =
-    let s = c .before .before .before .before .args in
-    let es = seen (s .table .now) (s .count) in
-    let i = c .before .before .before .loop .i in
-    (omega arith, rw (pendings-step (nodesOf es) i) (all-then (s .limit) es (pendings (axiomsOf (take i (nodesOf es)))) (axiomTurn (nodesOf es) i) _ _ _ _ _ _ (c .before .before .before .loop .inv .1) (c .axiom-at .ensures)))
+    let args = c .before .before .before .before .args in
+    let at = c .before .before .before .loop in
+    (omega arith, adds-all-same _ _ _ _ _ _ _ _ (adds-append _ _ _ _ _ _ _ _ _ _ (at .inv .1) (c .axiom-at .ensures)) (pendings-step (nodesOf (seen (args .table .now) (args .count))) (at .i)))
 
 returns : tie.Need-returns Inv-loop μ-loop
-returns c =
-    let s = c .before .before .args in
-    let es = seen (s .table .now) (s .count) in
-    rw (pendings-all es (c .before .loop .i) (omega (arith, seen-most (s .table .now) (s .count)))) at (c .before .loop .inv .1)
+returns c = adds-all-same _ _ _ _ _ _ _ _ (c .before .loop .inv .1) (sym (pendings-all _ _ (seen-short _ _ _ (c .loop-test .left))))
 
 pub axiom-parts-spec : {M : Type 1} → statement M
 axiom-parts-spec =

@@ -1,7 +1,6 @@
--- `tbox::parts::flatten` meets its contract. The loop's invariant: the parts below `j` have had their turn. There are at most 20,
--- or the loop ends.
-use native.Mathlib.Omega.{arith}
+-- The invariant: the parts before j have had their turn in the queue. There are at most 20, or the loop ends.
 use Prim.Native.Nat.{_-_}
+use native.Mathlib.Omega.{arith}
 use Rattle.tbox.specs.Tables.{seen}
 use Rattle.tbox.proofs.Turning.{Turning, turning-start, turning-next, turning-over, turning-end}
 use Rattle.tbox.proofs.parts.flatten.Statement.{statement}

@@ -1,6 +1,6 @@
 -- A restriction puts one word, or two where its filler needs a fresh name.
-use Rattle.tbox.proofs.Holding.{met-alone, met-both}
 use borrow.Author.Needs.{needs}
+use Rattle.tbox.proofs.Holding.{met-alone, met-both}
 use Rattle.tbox.proofs.parts.meet.Statement.{statement}
 use Rattle.tbox.proofs.parts.meet.Tie as tie
 

@@ -1,4 +1,4 @@
--- `tbox::parts::name_parts` meets its contract. The loop's invariant: the table holds the names below `n`.
+-- The invariant: the table holds the parts of the first n names.
 use Prim.Native.Nat.{_+_, _≤_, _-_}
 use mathlib.Core.Path.{_≡_, refl}
 use mathlib.Core.List.{List}
@@ -6,7 +6,9 @@ use native.Mathlib.Omega.{arith}
 use Rattle.tbox.specs.declared.records.Entry.{Entry}
 use Rattle.tbox.specs.Flatten.{nameParts}
 use Rattle.tbox.specs.Tables.{Held}
-use Rattle.tbox.proofs.Turning.{names-length, names-none, names-next, held-longer}
+use Rattle.tbox.proofs.Queue.{names-length}
+use Rattle.tbox.proofs.Holding.{held-longer}
+use Rattle.tbox.proofs.Turning.{names-none, names-next}
 use Rattle.tbox.proofs.parts.name_parts.Statement.{statement}
 use Rattle.tbox.proofs.parts.name_parts.Tie as tie
 

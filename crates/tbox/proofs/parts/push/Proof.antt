@@ -1,7 +1,7 @@
 -- A word is put at the end where there is room below the limit.
 use native.Mathlib.Omega.{arith}
-use Rattle.tbox.proofs.Holding.{pushed-fits, pushed-over}
 use borrow.Author.Needs.{needs}
+use Rattle.tbox.proofs.Holding.{pushed-fits, pushed-over}
 use Rattle.tbox.proofs.parts.push.Statement.{statement}
 use Rattle.tbox.proofs.parts.push.Tie as tie
 

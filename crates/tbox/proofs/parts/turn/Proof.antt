@@ -1,7 +1,8 @@
--- `tbox::parts::turn` meets its contract: only the word of a fresh part has the remainder 1 or 5.
+-- A fresh part's word says how its filler is read; any other part puts nothing on the queue.
 use mathlib.Core.Bool.{true, false}
-use Rattle.tbox.proofs.Turning.{turn-fresh, turn-none, seen-most}
 use borrow.Author.Needs.{needs}
+use Rattle.tbox.proofs.Entries.{seen-most}
+use Rattle.tbox.proofs.Turning.{turn-fresh, turn-quiet, adds-all-same, adds-nothing, adds-guarded}
 use Rattle.tbox.proofs.parts.turn.Statement.{statement}
 use Rattle.tbox.proofs.parts.turn.Tie as tie
 
@@ -12,20 +13,16 @@ plain-parts-requires : tie.Need-plain-parts-requires
 plain-parts-requires c κs = search needs
 
 returns : tie.Need-returns
-returns c =
-    let s = c .before .before .before .args in
-    turn-fresh _ _ (s .word) (s .count) false _ _ _ _ (seen-most (s .table .now) (s .count)) (c .before .before .if1 .taken) (c .plain-parts .ensures)
+returns c = λ j p s. adds-all-same _ _ _ _ _ _ _ _ (adds-guarded _ _ _ _ _ _ _ _ (c .plain-parts .ensures)) (turn-fresh _ _ _ _ false p (seen-most _ _) s (c .before .before .if1 .taken))
 
 negated-parts-requires : tie.Need-negated-parts-requires
 negated-parts-requires c κs = search needs
 
 returns-2 : tie.Need-returns-2
-returns-2 c =
-    let s = c .before .before .before .before .args in
-    turn-fresh _ _ (s .word) (s .count) true _ _ _ _ (seen-most (s .table .now) (s .count)) (c .before .before .if2 .taken) (c .negated-parts .ensures)
+returns-2 c = λ j p s. adds-all-same _ _ _ _ _ _ _ _ (adds-guarded _ _ _ _ _ _ _ _ (c .negated-parts .ensures)) (turn-fresh _ _ _ _ true p (seen-most _ _) s (c .before .before .if2 .taken))
 
 returns-3 : tie.Need-returns-3
-returns-3 c = turn-none _ _ _ _ _ (c .before .if1 .left) (c .if2 .left)
+returns-3 c = λ j p s. adds-all-same _ _ _ _ _ _ _ _ (adds-nothing _ _ _ _) (turn-quiet _ _ _ p s (c .before .if1 .left) (c .if2 .left))
 
 pub turn-spec : {M : Type 1} → statement M
 turn-spec =

@@ -1,6 +1,7 @@
+-- The record's word stands right after those counted.
 use mathlib.Core.Path.{refl}
-use Rattle.tbox.proofs.Entries.{seen-append}
 use borrow.Author.Needs.{needs}
+use Rattle.tbox.proofs.Entries.{seen-append}
 use Rattle.tbox.proofs.records.append.Statement.{statement}
 use Rattle.tbox.proofs.records.append.Tie as tie
 
@@ -32,7 +33,11 @@ roles-after-requires : tie.Need-roles-after-requires
 roles-after-requires c κs = search needs
 
 returns : tie.Need-returns
-returns c = record { records = seen-append _ _ _ _ (c .before .before .before .before .sized .ensures) (c .before .before .before .before .before .before .pre .0) (c .before .before .before .word-of .ensures); count = refl; at = refl; names = c .before .names-after .ensures; roles = c .roles-after .ensures }
+returns c =
+    let pre = c .before .before .before .before .before .before .pre in
+    let sized = c .before .before .before .before .sized in
+    let word-of = c .before .before .before .word-of in
+    record { records = seen-append _ _ _ _ (sized .ensures) (pre .0) (word-of .ensures); count = refl; at = refl; names = c .before .names-after .ensures; roles = c .roles-after .ensures }
 
 pub append-spec : {M : Type 1} → statement M
 append-spec =

@@ -1,5 +1,5 @@
-use Rattle.tbox.specs.Scan.{emptyFault}
 use borrow.Author.Needs.{needs}
+use Rattle.tbox.specs.Scan.{emptyFault}
 use Rattle.tbox.proofs.records.empty_fault.Statement.{statement}
 use Rattle.tbox.proofs.records.empty_fault.Tie as tie
 

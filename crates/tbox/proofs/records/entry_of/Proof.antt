@@ -1,6 +1,6 @@
 use mathlib.Core.Path.{refl}
-use Rattle.tbox.specs.Tables.{entryOf}
 use borrow.Author.Needs.{needs}
+use Rattle.tbox.specs.Tables.{entryOf}
 use Rattle.tbox.proofs.records.entry_of.Statement.{statement}
 use Rattle.tbox.proofs.records.entry_of.Tie as tie
 
@@ -13,9 +13,12 @@ cast-t6 c = search needs
 cast-t9 : tie.Need-cast-t9
 cast-t9 c = search needs
 
+cast-t18 : tie.Need-cast-t18
+cast-t18 c = search needs
+
 returns : tie.Need-returns
 unfolding entryOf
 returns c = refl
 
 pub entry-of-spec : {M : Type 1} → statement M
-entry-of-spec = tie.close (tie.spec cast-t3 cast-t6 cast-t9 returns)
+entry-of-spec = tie.close (tie.spec cast-t3 cast-t6 cast-t9 cast-t18 returns)

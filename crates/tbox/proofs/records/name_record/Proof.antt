@@ -1,6 +1,7 @@
+-- Only a record that is there is named; its word is written anew.
 use mathlib.Core.Path.{sym}
-use Rattle.tbox.proofs.Faults.{name-none, name-past, name-at}
 use borrow.Author.Needs.{needs}
+use Rattle.tbox.proofs.Faults.{name-none, name-past, name-at}
 use Rattle.tbox.proofs.records.name_record.Statement.{statement}
 use Rattle.tbox.proofs.records.name_record.Tie as tie
 
@@ -10,17 +11,14 @@ returns c = sym (name-none _ _ _ (c .if1 .taken))
 returns-2 : tie.Need-returns-2
 returns-2 c = sym (name-past _ _ _ _ (c .before .if1 .left) (c .if2 .taken))
 
-mul-entry-of : tie.Need-mul-entry-of
-mul-entry-of c = search needs
+mul-named-word : tie.Need-mul-named-word
+mul-named-word c = search needs
 
-element-copy-out-entry-of : tie.Need-element-copy-out-entry-of
-element-copy-out-entry-of c = search needs
+element-copy-out-named-word : tie.Need-element-copy-out-named-word
+element-copy-out-named-word c = search needs
 
-entry-of-requires : tie.Need-entry-of-requires
-entry-of-requires c κs = search needs
-
-word-of-requires : tie.Need-word-of-requires
-word-of-requires c κs = search needs
+named-word-requires : tie.Need-named-word-requires
+named-word-requires c κs = search needs
 
 mul-table : tie.Need-mul-table
 mul-table c = search needs
@@ -29,7 +27,7 @@ element-write-table : tie.Need-element-write-table
 element-write-table c = search needs
 
 returns-3 : tie.Need-returns-3
-returns-3 c = name-at _ _ _ _ _ _ (c .before .before .before .before .if1 .left) (c .before .before .before .if2 .left) (c .before .entry-of .ensures) (c .word-of .ensures)
+returns-3 c = name-at _ _ _ _ _ (c .before .before .before .if1 .left) (c .before .before .if2 .left) (c .named-word .ensures)
 
 pub name-record-spec : {M : Type 1} → statement M
 name-record-spec =
@@ -37,10 +35,9 @@ name-record-spec =
     (tie.spec
     returns
     returns-2
-    mul-entry-of
-    element-copy-out-entry-of
-    entry-of-requires
-    word-of-requires
+    mul-named-word
+    element-copy-out-named-word
+    named-word-requires
     mul-table
     element-write-table
     returns-3)

@@ -1,6 +1,6 @@
 use borrow.Author.Tests.{eq-eqb, ne-eqb}
-use Rattle.tbox.specs.Scan.{namesAfter}
 use borrow.Author.Needs.{needs}
+use Rattle.tbox.specs.Scan.{namesAfter}
 use Rattle.tbox.proofs.records.names_after.Statement.{statement}
 use Rattle.tbox.proofs.records.names_after.Tie as tie
 

@@ -1,6 +1,7 @@
+-- A record that is there, or a blank one.
 use mathlib.Core.Path.{sym, _∙_}
-use Rattle.tbox.proofs.Entries.{seen-at, seen-past}
 use borrow.Author.Needs.{needs}
+use Rattle.tbox.proofs.Entries.{seen-at, seen-past}
 use Rattle.tbox.proofs.records.record_at.Statement.{statement}
 use Rattle.tbox.proofs.records.record_at.Tie as tie
 

@@ -17,9 +17,6 @@ sized-requires c κs = search needs
 record-at-requires : tie.Need-record-at-requires
 record-at-requires c κs = search needs
 
-shape-of-requires : tie.Need-shape-of-requires
-shape-of-requires c κs = search needs
-
 sort-fault-requires : tie.Need-sort-fault-requires
 sort-fault-requires c κs = search needs
 
@@ -30,7 +27,7 @@ or-else-requires : tie.Need-or-else-requires
 or-else-requires c κs = search needs
 
 returns-3 : tie.Need-returns-3
-returns-3 c = c .or-else .ensures ∙ reference-within _ _ _ _ _ _ _ (c .before .before .before .before .before .before .before .if1 .left) (seen-within _ _ _ (c .before .before .before .before .before .sized .ensures) (c .before .before .before .before .before .before .before .before .pre) (c .before .before .before .before .before .before .if2 .left)) (c .before .before .before .before .record-at .ensures) (c .before .before .before .shape-of .ensures) (c .before .before .sort-fault .ensures) (c .before .again-fault .ensures)
+returns-3 c = c .or-else .ensures ∙ reference-within _ _ _ _ _ _ (c .before .before .before .before .before .before .if1 .left) (seen-within _ _ _ (c .before .before .before .before .sized .ensures) (c .before .before .before .before .before .before .before .pre) (c .before .before .before .before .before .if2 .left)) (c .before .before .before .record-at .ensures) (c .before .before .sort-fault .ensures) (c .before .again-fault .ensures)
 
 pub reference-fault-spec : {M : Type 1} → statement M
 reference-fault-spec =
@@ -40,7 +37,6 @@ reference-fault-spec =
     returns-2
     sized-requires
     record-at-requires
-    shape-of-requires
     sort-fault-requires
     again-fault-requires
     or-else-requires

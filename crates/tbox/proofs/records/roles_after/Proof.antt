@@ -1,6 +1,6 @@
 use borrow.Author.Tests.{eq-eqb, ne-eqb}
-use Rattle.tbox.specs.Scan.{rolesAfter}
 use borrow.Author.Needs.{needs}
+use Rattle.tbox.specs.Scan.{rolesAfter}
 use Rattle.tbox.proofs.records.roles_after.Statement.{statement}
 use Rattle.tbox.proofs.records.roles_after.Tie as tie
 

@@ -16,6 +16,24 @@ mul-flags c = search needs
 add-flags : tie.Need-add-flags
 add-flags c = search needs
 
+cast-flags : tie.Need-cast-flags
+cast-flags c = search needs
+
+mul-flags-2 : tie.Need-mul-flags-2
+mul-flags-2 c = search needs
+
+add-flags-2 : tie.Need-add-flags-2
+add-flags-2 c = search needs
+
+flag-of-requires-3 : tie.Need-flag-of-requires-3
+flag-of-requires-3 c κs = search needs
+
+mul-flags-3 : tie.Need-mul-flags-3
+mul-flags-3 c = search needs
+
+add-flags-3 : tie.Need-add-flags-3
+add-flags-3 c = search needs
+
 cast-result : tie.Need-cast-result
 cast-result c = search needs
 
@@ -44,7 +62,7 @@ add-result-3 : tie.Need-add-result-3
 add-result-3 c = search needs
 
 returns : tie.Need-returns
-returns c = word-entry (c .before .before .before .before .before .args .e) _ _ (omega arith) (omega arith) (omega arith) (c .before .before .before .before .flag-of .ensures .0) (c .before .before .before .flag-of2 .ensures .0) (c .before .before .before .before .flag-of .ensures .1) (c .before .before .before .flag-of2 .ensures .1)
+returns c = word-entry (c .before .before .before .before .before .before .before .args .e) _ _ _ (omega arith) (omega arith) (omega arith) (c .before .before .before .before .before .before .before .pre) (c .before .before .before .before .before .before .flag-of .ensures .0) (c .before .before .before .before .before .flag-of2 .ensures .0) (c .before .before .before .flag-of3 .ensures .0) (c .before .before .before .before .before .before .flag-of .ensures .1) (c .before .before .before .before .before .flag-of2 .ensures .1) (c .before .before .before .flag-of3 .ensures .1)
 
 pub word-of-spec : {M : Type 1} → statement M
 word-of-spec =
@@ -54,6 +72,12 @@ word-of-spec =
     flag-of-requires-2
     mul-flags
     add-flags
+    cast-flags
+    mul-flags-2
+    add-flags-2
+    flag-of-requires-3
+    mul-flags-3
+    add-flags-3
     cast-result
     cast-result-2
     mul-result

@@ -1,0 +1,378 @@
+-- What the layers above may use of a sheet that is read, and of a refusal. Assumes nothing.
+use Prim.Native.Nat.{ℕ, zero, suc, _+_, _-_, _≤_, _<_}
+use native.Mathlib.Omega.{arith}
+use native.Mathlib.Decide.{ℕ-discrete}
+use mathlib.Core.Path.{_≡_, refl, _∙_}
+use mathlib.Core.Logic.{_⊎_, inl, inr, ⊎-elim}
+use mathlib.Core.Bool.{Bool, true, false, cond, not, _&&_}
+use mathlib.Core.Option.{Option, none, some}
+use mathlib.Core.List.{List, [], _∷_, _++_, append-assoc, append-nil}
+use lib.ListN.{length, length-append, List·getD-append}
+use lib.Seq.{getD-at}
+use lib.Dec.{eqb, leb, ltb}
+use borrow.Author.Tests.{eqb-false, leb-true, ltb-true}
+use Rattle.tbox.specs.declared.records.Shape.{Shape}
+use Rattle.tbox.specs.declared.records.Entry.{Entry}
+use Rattle.tbox.specs.Shapes.{isRestriction}
+use Rattle.tbox.specs.Scan.{State, start, recordAt, orElse, numberFault, sortFault, againFault, referenceFault, name, emptyFault, bodyFault, bodyByte, shapeAt, recordFault, recordAfter, Scanning, refused, whole, scan, scanSheet}
+use Rattle.tbox.specs.Concepts.{Role, Concept, topC, bottomC, nameC, notC, andC, orC, existsC, forallC, Axiom}
+use Rattle.tbox.specs.Normal.{Tag, Nf, topN, bottomN, nameN, notN, andN, orN, existsN, forallN, plain, negated, axiomNf}
+use Rattle.tbox.specs.Flatten.{Filler, everything, nothing, part, Part, nameP, freshP, existsP, forallP, atom, Pending, whole as wholeP, guarded, Walked, meetOne, walk, walkPending, run, weights, nameParts, pendings, flatten, noPart, partAt}
+use Rattle.tbox.specs.Truth.{roleOn}
+use Rattle.tbox.specs.Reading.{Kb, refusal, kb, kbOf, partsOf, admit, reading, readKb}
+use Rattle.tbox.specs.Bounds.{RolesBelow, NamesBelow, EachRole, AxiomNames, AxiomRoles, AxiomsBelow, PartRole, PartFiller, FillerLow, PartLow, FillerPlain, PartPlain}
+use Rattle.tbox.proofs.Formed.{read-few}
+use Rattle.tbox.proofs.Bounded.{read-bounded, axioms-restricted}
+use Rattle.tbox.proofs.Queue.{names-length, left-start, left-grows, left-part}
+
+-- The names are the first parts.
+names-at : (T t : ℕ) → t < T → partAt (nameParts T) t ≡ nameP t
+unfolding nameParts
+names-at zero t h = absurd (omega arith)
+names-at (suc T) t h = pick (names-at T t) (ℕ-discrete t T)
+  where
+    pick : (t < T → partAt (nameParts T) t ≡ nameP t) → Dec (t ≡ T) → partAt (nameParts T ++ (nameP T ∷ [])) t ≡ nameP t
+    pick ih (yes q) = rw q (getD-at (nameParts T) (nameP T) [] noPart T (names-length T))
+    pick ih (no q) = List·getD-append (nameParts T) (nameP T ∷ []) noPart t (omega (arith, names-length T)) ∙ ih (omega arith)
+
+pub names-within : (T : ℕ) (s : List Axiom) → T ≤ length (flatten T s .parts)
+names-within T s = omega (arith, left-grows (left-start T s), names-length T)
+
+pub names-first : (T : ℕ) (s : List Axiom) (i : ℕ) → i < T → partAt (flatten T s .parts) i ≡ nameP i
+names-first T s i h = left-part (left-start T s) i (omega (arith, names-length T)) ∙ names-at T i h
+
+-- what holds of each of a list
+abbrev All : {A : Type 0} → (A → Type 0) → List A → Type 0
+All P [] = Unit
+All P (a ∷ l) = P a × All P l
+
+all-append : {A : Type 0} (P : A → Type 0) (l l′ : List A) → All P l → All P l′ → All P (l ++ l′)
+all-append P [] l′ h h′ = h′
+all-append P (a ∷ l) l′ h h′ = (h .0, all-append P l l′ (h .1) h′)
+
+all-more : {A : Type 0} (P Q : A → Type 0) → ((a : A) → P a → Q a) → (l : List A) → All P l → All Q l
+all-more P Q f [] h = tt
+all-more P Q f (a ∷ l) h = (f a (h .0), all-more P Q f l (h .1))
+
+all-at : (P : Part → Type 0) → P noPart → (l : List Part) → All P l → (i : ℕ) → P (partAt l i)
+all-at P d [] h i = d
+all-at P d (a ∷ l) h zero = h .0
+all-at P d (a ∷ l) h (suc i) = all-at P d l (h .1) i
+
+-- a filler that is everything, nothing, or a name or a fresh part among these
+abbrev Fine : List Part → Filler → Type 0
+Fine so f = FillerLow (length so) f × FillerPlain (partAt so) f
+
+fine-more : (so more : List Part) (f : Filler) → Fine so f → Fine (so ++ more) f
+fine-more so more everything h = (tt, tt)
+fine-more so more nothing h = (tt, tt)
+fine-more so more (part j) h = (omega (arith, length-append so more), rw (List·getD-append so more noPart j (h .0)) (h .1))
+
+-- the fresh part behind a restriction
+next-at : (so : List Part) (p q : Part) → partAt (so ++ (p ∷ q ∷ [])) (suc (length so)) ≡ q
+next-at [] p q = refl
+next-at (a ∷ so) p q = next-at so p q
+
+next-fine : (so : List Part) (p : Part) (g : Tag) (c : Nf) → Fine (so ++ (p ∷ freshP g c ∷ [])) (part (suc (length so)))
+next-fine so p g c = (omega (arith, length-append so (p ∷ freshP g c ∷ [])), rw (next-at so p (freshP g c)) tt)
+
+filler-more : (P R : Filler → Type 0) → ((f : Filler) → P f → R f) → (p : Part) → PartFiller P p → PartFiller R p
+filler-more P R i (nameP t) h = h
+filler-more P R i (freshP g c) h = h
+filler-more P R i (existsP g u f) h = i f h
+filler-more P R i (forallP g u f) h = i f h
+
+-- Names below T and Q of the role of each restriction: this goes from the axioms to their normal forms and to the parts.
+module _ (T : ℕ) (Q : Role → Type 0) where
+  abbrev Fits : Nf → Type 0
+  Fits topN = Unit
+  Fits bottomN = Unit
+  Fits (nameN t) = t < T
+  Fits (notN t) = t < T
+  Fits (andN c d) = Fits c × Fits d
+  Fits (orN c d) = Fits c × Fits d
+  Fits (existsN g u c) = Q u × Fits c
+  Fits (forallN g u c) = Q u × Fits c
+
+  mutual
+    unfolding NamesBelow EachRole plain negated
+
+    plain-fits : (c : Concept) → NamesBelow T c → EachRole Q c → Fits (plain c)
+    plain-fits topC h q = tt
+    plain-fits bottomC h q = tt
+    plain-fits (nameC t) h q = h
+    plain-fits (notC c) h q = negated-fits c h q
+    plain-fits (andC c d) h q = (plain-fits c (h .0) (q .0), plain-fits d (h .1) (q .1))
+    plain-fits (orC c d) h q = (plain-fits c (h .0) (q .0), plain-fits d (h .1) (q .1))
+    plain-fits (existsC r f u c) h q = (q .0, plain-fits c h (q .1))
+    plain-fits (forallC r f u c) h q = (q .0, plain-fits c h (q .1))
+
+    negated-fits : (c : Concept) → NamesBelow T c → EachRole Q c → Fits (negated c)
+    negated-fits topC h q = tt
+    negated-fits bottomC h q = tt
+    negated-fits (nameC t) h q = h
+    negated-fits (notC c) h q = plain-fits c h q
+    negated-fits (andC c d) h q = (negated-fits c (h .0) (q .0), negated-fits d (h .1) (q .1))
+    negated-fits (orC c d) h q = (negated-fits c (h .0) (q .0), negated-fits d (h .1) (q .1))
+    negated-fits (existsC r f u c) h q = (q .0, negated-fits c h (q .1))
+    negated-fits (forallC r f u c) h q = (q .0, negated-fits c h (q .1))
+
+  abbrev Waits : Pending → Type 0
+  Waits (wholeP c) = Fits c
+  Waits (guarded f c) = Fits c
+
+  pendings-wait : (s : List Axiom) → AxiomNames T s → AxiomRoles Q s → All Waits (pendings s)
+  unfolding pendings axiomNf
+  pendings-wait [] h q = tt
+  pendings-wait (a ∷ s) h q = ((negated-fits (a .left) (h .0) (q .0), plain-fits (a .right) (h .1) (q .1)), pendings-wait s (h .2) (q .2))
+
+  -- a part among these
+  abbrev Ok : List Part → Part → Type 0
+  Ok so p = PartRole Q p × PartFiller (Fine so) p
+
+  ok-more : (so more : List Part) (p : Part) → Ok so p → Ok (so ++ more) p
+  ok-more so more p h = (h .0, filler-more (Fine so) (Fine (so ++ more)) (fine-more so more) p (h .1))
+
+  -- the parts so far: the names first, and each as it should be
+  record Sound (so : List Part) : Type 0 where
+    long : T ≤ length so
+    first : (t : ℕ) → t < T → partAt so t ≡ nameP t
+    each : All (Ok so) so
+
+  sound-more : (so more : List Part) → Sound so → All (Ok (so ++ more)) more → Sound (so ++ more)
+  sound-more so more s h =
+      record {
+        long = omega (arith, length-append so more, s .long);
+        first = λ t l. List·getD-append so more noPart t (omega (arith, s .long)) ∙ s .first t l;
+        each = all-append (Ok (so ++ more)) so more (all-more (Ok so) (Ok (so ++ more)) (ok-more so more) so (s .each)) h;
+      }
+
+  names-ok : (so : List Part) (n : ℕ) → All (Ok so) (nameParts n)
+  unfolding nameParts
+  names-ok so zero = tt
+  names-ok so (suc n) = all-append (Ok so) (nameParts n) (nameP n ∷ []) (names-ok so n) ((tt, tt), tt)
+
+  names-sound : Sound (nameParts T)
+  names-sound = record { long = omega (arith, names-length T); first = names-at T; each = names-ok (nameParts T) T }
+
+  abbrev Found : List Part → Option Filler → Type 0
+  Found so (some a) = Fine so a
+  Found so none = Unit
+
+  atom-found : (so : List Part) (c : Nf) → Sound so → Fits c → Found so (atom c)
+  unfolding atom
+  atom-found so topN s h = (tt, tt)
+  atom-found so bottomN s h = (tt, tt)
+  atom-found so (nameN t) s h = (omega (arith, s .long), rw (s .first t h) tt)
+  atom-found so (notN t) s h = tt
+  atom-found so (andN c d) s h = tt
+  atom-found so (orN c d) s h = tt
+  atom-found so (existsN g u c) s h = tt
+  atom-found so (forallN g u c) s h = tt
+
+  -- what going through one of the queue keeps
+  abbrev Keeps : List Part → Walked → Type 0
+  Keeps so w = Sound (so ++ w .parts) × All Waits (w .later)
+
+  keeps-none : (so : List Part) → Sound so → Sound (so ++ [])
+  keeps-none so s = rw append-nil s
+
+  keeps-both : (so : List Part) (a b : Walked) → Keeps so a → Keeps (so ++ a .parts) b → Sound (so ++ (a .parts ++ b .parts)) × All Waits (a .later ++ b .later)
+  keeps-both so a b h k = (rw (← append-assoc so (a .parts) (b .parts)) (k .0), all-append Waits (a .later) (b .later) (h .1) (k .1))
+
+  meet-keeps : (p : Filler → Part) (g : Tag) (c : Nf) (so : List Part) (o : Option Filler) → ((l : List Part) (f : Filler) → Fine l f → Ok l (p f)) →
+      Fits c → Sound so → Found so o → Keeps so (meetOne p g c so o)
+  unfolding meetOne
+  meet-keeps p g c so (some a) ok h s f = (sound-more so (p a ∷ []) s (ok (so ++ (p a ∷ [])) a (fine-more so (p a ∷ []) a f), tt), tt)
+  meet-keeps p g c so none ok h s f =
+      let next : Part = p (part (suc (length so))) in
+      (sound-more so (next ∷ freshP g c ∷ []) s (ok (so ++ (next ∷ freshP g c ∷ [])) (part (suc (length so))) (next-fine so next g c), ((tt, tt), tt)), (h, tt))
+
+  walk-keeps : (c : Nf) (so : List Part) → Fits c → Sound so → Keeps so (walk c so)
+  unfolding walk
+  walk-keeps topN so h s = (keeps-none so s, tt)
+  walk-keeps bottomN so h s = (keeps-none so s, tt)
+  walk-keeps (nameN t) so h s = (keeps-none so s, tt)
+  walk-keeps (notN t) so h s = (keeps-none so s, tt)
+  walk-keeps (andN c d) so h s =
+      let a = walk-keeps c so (h .0) s in
+      keeps-both so (walk c so) (walk d (so ++ walk c so .parts)) a (walk-keeps d (so ++ walk c so .parts) (h .1) (a .0))
+  walk-keeps (orN c d) so h s =
+      let a = walk-keeps c so (h .0) s in
+      keeps-both so (walk c so) (walk d (so ++ walk c so .parts)) a (walk-keeps d (so ++ walk c so .parts) (h .1) (a .0))
+  walk-keeps (existsN g u c) so h s = meet-keeps (existsP g u) g c so (atom c) (λ l f k. (h .0, k)) (h .1) s (atom-found so c s (h .1))
+  walk-keeps (forallN g u c) so h s = meet-keeps (forallP g u) g c so (atom c) (λ l f k. (h .0, k)) (h .1) s (atom-found so c s (h .1))
+
+  pending-keeps : (p : Pending) (so : List Part) → Waits p → Sound so → Keeps so (walkPending p so)
+  unfolding walkPending
+  pending-keeps (wholeP c) so h s = walk-keeps c so h s
+  pending-keeps (guarded f c) so h s = walk-keeps c so h s
+
+  run-keeps : (f : ℕ) (q : List Pending) (so : List Part) → All Waits q → Sound so → Sound (so ++ run f q so .parts)
+  unfolding run
+  run-keeps zero q so h s = keeps-none so s
+  run-keeps (suc f) [] so h s = keeps-none so s
+  run-keeps (suc f) (p ∷ q) so h s =
+      let w : Walked = walkPending p so in
+      let k = pending-keeps p so (h .0) s in
+      rw (← append-assoc so (w .parts) (run f (q ++ w .later) (so ++ w .parts) .parts))
+      (run-keeps f (q ++ w .later) (so ++ w .parts) (all-append Waits q (w .later) (h .1) (k .1)) (k .0))
+
+  module _ (s : List Axiom) (low : AxiomNames T s) (roles : AxiomRoles Q s) where
+    parts-sound : Sound (flatten T s .parts)
+    unfolding flatten
+    parts-sound = run-keeps (weights (pendings s)) (pendings s) (nameParts T) (pendings-wait s low roles) names-sound
+
+    parts-ok : (i : ℕ) → Ok (flatten T s .parts) (partAt (flatten T s .parts) i)
+    parts-ok = all-at (Ok (flatten T s .parts)) (tt, tt) (flatten T s .parts) (parts-sound .each)
+
+    -- Q holds of the role of each restriction part
+    pub parts-roles : (i : ℕ) → PartRole Q (partAt (flatten T s .parts) i)
+    parts-roles i = parts-ok i .0
+
+    -- the filler of each is everything, nothing, or a name or a fresh part that is there
+    pub parts-low : (i : ℕ) → PartLow (length (flatten T s .parts)) (partAt (flatten T s .parts) i)
+    parts-low i = filler-more (Fine (flatten T s .parts)) (FillerLow (length (flatten T s .parts))) (λ f h. h .0) (partAt (flatten T s .parts) i) (parts-ok i .1)
+
+    pub parts-plain : (i : ℕ) → PartPlain (partAt (flatten T s .parts)) (partAt (flatten T s .parts) i)
+    parts-plain i = filler-more (Fine (flatten T s .parts)) (FillerPlain (partAt (flatten T s .parts))) (λ f h. h .1) (partAt (flatten T s .parts) i) (parts-ok i .1)
+
+-- The state of a sheet that is read.
+kb-whole : (limit : ℕ) (sheet : List ℕ) (k : Kb) → readKb limit sheet ≡ kb k →
+    (st : State) × (scanSheet sheet ≡ whole st) × (k ≡ kbOf st) × (length (partsOf k) + k .roles ≤ limit)
+unfolding readKb reading admit
+kb-whole limit sheet k e = go (scanSheet sheet) refl e
+  where
+    admitted : (st : State) (b : Bool) → leb (length (partsOf (kbOf st)) + st .roles) limit ≡ b → cond b (kb (kbOf st)) (refusal 9 0) ≡ kb k →
+        (k ≡ kbOf st) × (length (partsOf k) + k .roles ≤ limit)
+    admitted st true q p = let i : k ≡ kbOf st = cc in (i, rw i (leb-true (length (partsOf (kbOf st)) + st .roles) limit q))
+    admitted st false q p = let z : _≡_ {A = ℕ} 0 1 = cc in absurd (omega arith)
+
+    go : (s : Scanning) → scanSheet sheet ≡ s → reading limit s ≡ kb k →
+        (st : State) × (scanSheet sheet ≡ whole st) × (k ≡ kbOf st) × (length (partsOf k) + k .roles ≤ limit)
+    go (refused n p) q h = let z : _≡_ {A = ℕ} 0 1 = cc in absurd (omega arith)
+    go (whole st) q h = let w = admitted st (leb (length (partsOf (kbOf st)) + st .roles) limit) refl h in (st, q, w .0, w .1)
+
+module _ (limit : ℕ) (sheet : List ℕ) {k : Kb} (e : readKb limit sheet ≡ kb k) where
+  pub kb-state : (st : State) × (scanSheet sheet ≡ whole st) × (k ≡ kbOf st)
+  kb-state = let w = kb-whole limit sheet k e in (w .0, w .1, w .2)
+
+  pub kb-small : length (partsOf k) + k .roles ≤ limit
+  kb-small = kb-whole limit sheet k e .3
+
+  pub kb-few : (k .names ≤ 12) × (k .roles ≤ 4)
+  kb-few = let w = kb-state in rw (w .2) (read-few sheet (w .0) (w .1))
+
+  pub kb-bounded : AxiomsBelow (k .names) (k .roles) (k .axioms)
+  kb-bounded = let w = kb-state in rw (w .2) (read-bounded sheet (w .0) (w .1))
+
+  -- every role of a restriction fails on the empty role set
+  pub kb-restricted : AxiomRoles (λ u. roleOn u 0 ≡ false) (k .axioms)
+  kb-restricted = let w = kb-state in rw (w .2) (axioms-restricted sheet (w .0) (w .1))
+
+  -- the filler of a restriction part is everything, nothing, or a name or a fresh part that is there
+  pub kb-fillers : (i : ℕ) → PartLow (length (partsOf k)) (partAt (partsOf k) i)
+  kb-fillers = parts-low (k .names) (RolesBelow (k .roles)) (k .axioms) (kb-bounded .names) (kb-bounded .roles)
+
+  pub kb-plain : (i : ℕ) → PartPlain (partAt (partsOf k)) (partAt (partsOf k) i)
+  kb-plain = parts-plain (k .names) (RolesBelow (k .roles)) (k .axioms) (kb-bounded .names) (kb-bounded .roles)
+
+  -- its role is over roles below the count, and fails on the empty role set
+  pub kb-part-roles : (i : ℕ) → PartRole (RolesBelow (k .roles)) (partAt (partsOf k) i)
+  kb-part-roles = parts-roles (k .names) (RolesBelow (k .roles)) (k .axioms) (kb-bounded .names) (kb-bounded .roles)
+
+  pub kb-part-restricted : (i : ℕ) → PartRole (λ u. roleOn u 0 ≡ false) (partAt (partsOf k) i)
+  kb-part-restricted = parts-roles (k .names) (λ u. roleOn u 0 ≡ false) (k .axioms) (kb-bounded .names) kb-restricted
+
+-- Faults of records are at most 8.
+most : {x y n : ℕ} (b : Bool) → x ≤ n → y ≤ n → cond b x y ≤ n
+most true h k = h
+most false h k = k
+
+number-most : (s : Shape) (a : ℕ) → numberFault s a ≤ 8
+unfolding numberFault
+number-most s a = most (eqb (s .limit) 0) (omega arith) (most (leb (s .limit) a) (omega arith) (omega arith))
+
+-- the first fault of two
+else-most : (f g : ℕ) → f ≤ 8 → g ≤ 8 → orElse f g ≤ 8
+else-most f g h k = most (eqb f 0) k h
+
+again-most : (e : Entry) → againFault e ≤ 8
+again-most e = most (e .named && not (e .leaf)) (omega arith) (omega arith)
+
+reference-most : (es : List Entry) (wanted r : ℕ) → referenceFault es wanted r ≤ 8
+unfolding referenceFault
+reference-most es wanted r =
+    let sort : ℕ = recordAt es r .sort in
+    most (eqb wanted 0) (omega arith)
+    (most (leb (length es) r) (omega arith)
+    (else-most (sortFault wanted sort) (againFault (recordAt es r)) (most (eqb sort wanted) (omega arith) (omega arith)) (again-most (recordAt es r))))
+
+empty-most : (es : List Entry) (s : Shape) (a : ℕ) → emptyFault es s a ≤ 8
+unfolding emptyFault
+empty-most es s a = most (isRestriction s && recordAt es a .vacuous) (omega arith) (omega arith)
+
+body-most : (es : List Entry) (s : Shape) (a b : ℕ) → bodyFault es s a b ≤ 8
+unfolding bodyFault
+body-most es s a b =
+    else-most _ _ (number-most s a)
+    (else-most _ _ (reference-most es (s .first) a)
+    (else-most _ _ (reference-most (name es (s .first) a) (s .second) b)
+    (empty-most es s a)))
+
+fault-most : (sheet : List ℕ) (st : State) → recordFault sheet st ≤ 8
+unfolding recordFault
+fault-most sheet st =
+    let s : Shape = shapeAt sheet (st .at) in
+    most (eqb (s .sort) 0) (omega arith)
+    (most (ltb (length sheet - (st .at + 1)) (s .body)) (omega arith)
+    (body-most (st .records) s (bodyByte sheet (st .at) s 1) (bodyByte sheet (st .at) s 2)))
+
+-- a fault, at a place in the sheet
+abbrev Fault : List ℕ → ℕ → ℕ → Type 0
+Fault sheet n p = (1 ≤ n) × (n ≤ 8) × (p < length sheet)
+
+scan-fault : (room : ℕ) (sheet : List ℕ) (st : State) (n p : ℕ) → scan room sheet st ≡ refused n p → Fault sheet n p
+unfolding scan
+scan-fault zero sheet st n p e = go (ltb (st .at) (length sheet)) refl e
+  where
+    go : (b : Bool) → ltb (st .at) (length sheet) ≡ b → cond b (refused 3 (st .at)) (whole st) ≡ refused n p → Fault sheet n p
+    go true q h =
+        let i : n ≡ 3 = cc in
+        let j : p ≡ st .at = cc in
+        (omega arith, omega arith, omega (arith, ltb-true (st .at) (length sheet) q))
+    go false q h = let z : _≡_ {A = ℕ} 0 1 = cc in absurd (omega arith)
+scan-fault (suc room) sheet st n p e =
+    go (ltb (st .at) (length sheet)) refl (eqb (recordFault sheet st) 0) refl (scan-fault room sheet (recordAfter sheet st) n p) e
+  where
+    go : (b : Bool) → ltb (st .at) (length sheet) ≡ b → (c : Bool) → eqb (recordFault sheet st) 0 ≡ c →
+        (scan room sheet (recordAfter sheet st) ≡ refused n p → Fault sheet n p) →
+        cond b (cond c (scan room sheet (recordAfter sheet st)) (refused (recordFault sheet st) (st .at))) (whole st) ≡ refused n p → Fault sheet n p
+    go true q true r f h = f h
+    go true q false r f h =
+        let i : n ≡ recordFault sheet st = cc in
+        let j : p ≡ st .at = cc in
+        (omega (arith, eqb-false (recordFault sheet st) 0 r), omega (arith, fault-most sheet st), omega (arith, ltb-true (st .at) (length sheet) q))
+    go false q c r f h = let z : _≡_ {A = ℕ} 0 1 = cc in absurd (omega arith)
+
+module _ (limit : ℕ) (sheet : List ℕ) {n p : ℕ} (e : readKb limit sheet ≡ refusal n p) where
+  -- a refusal is a fault of a record, or 9
+  pub refusal-cases : ((1 ≤ n) × (n ≤ 8) × (p < length sheet)) ⊎ ((n ≡ 9) × (p ≡ 0))
+  unfolding readKb reading admit scanSheet
+  refusal-cases = go (scanSheet sheet) refl e
+    where
+      nine : (b : Bool) (k : Kb) → cond b (kb k) (refusal 9 0) ≡ refusal n p → (n ≡ 9) × (p ≡ 0)
+      nine true k h = let z : _≡_ {A = ℕ} 0 1 = cc in absurd (omega arith)
+      nine false k h = (cc, cc)
+
+      go : (s : Scanning) → scanSheet sheet ≡ s → reading limit s ≡ refusal n p → Fault sheet n p ⊎ ((n ≡ 9) × (p ≡ 0))
+      go (refused m r) q h =
+          let i : refused m r ≡ refused n p = cc in
+          inl (scan-fault 255 sheet start n p (q ∙ i))
+      go (whole st) q h = inr (nine (leb (length (partsOf (kbOf st)) + st .roles) limit) (kbOf st) h)
+
+  pub refusal-number : (1 ≤ n) × (n ≤ 9)
+  refusal-number = ⊎-elim (λ f. (f .0, omega arith)) (λ f. (omega arith, omega arith)) refusal-cases
+
+  pub refusal-place : n ≤ 8 → p < length sheet
+  refusal-place h = ⊎-elim (λ f. f .2) (λ f. absurd (omega arith)) refusal-cases
