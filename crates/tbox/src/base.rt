@@ -162,7 +162,7 @@ pub fn load(sheet: &[u8]) -> Loaded
 {
     let mut table = [0u32; 255];
     let mut parts = [0u16; 20];
-    let a = crate::admit(sheet, &mut table, &mut parts, 12);
+    let a = crate::admit(sheet, &mut table, &mut parts, crate::LIMIT);
     if a.fault != 0 {
         return Loaded {
             fault: a.fault,

@@ -12,6 +12,9 @@ pub mod parts;
 pub mod records;
 pub mod truth;
 
+// Parts and roles together are at most this many: document 01's limit on c + L.
+pub(crate) const LIMIT: usize = 12;
+
 // What reading a sheet found: a fault and its place, or fault 0 and the counts of records, names, roles and parts.
 pub struct Admitted {
     pub fault: u8,
@@ -72,7 +75,7 @@ pub fn read(sheet: &[u8]) -> ReadAnswer
 {
     let mut table = [0u32; 255];
     let mut parts = [0u16; 20];
-    let a = admit(sheet, &mut table, &mut parts, 12);
+    let a = admit(sheet, &mut table, &mut parts, LIMIT);
     if a.fault != 0 {
         return ReadAnswer::Refused(a.fault, a.place);
     }
@@ -92,7 +95,7 @@ pub fn list_marks(sheet: &[u8], list: &mut [u8]) -> ListAnswer
 {
     let mut table = [0u32; 255];
     let mut parts = [0u16; 20];
-    let a = admit(sheet, &mut table, &mut parts, 12);
+    let a = admit(sheet, &mut table, &mut parts, LIMIT);
     if a.fault != 0 {
         return ListAnswer::Refused(a.fault, a.place);
     }

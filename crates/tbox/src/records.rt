@@ -359,6 +359,15 @@ fn append(table: &mut [u32; 255], p: Progress, e: Entry, body: u8) -> Progress
     }
 }
 
+fn faulted(fault: u8, p: Progress) -> Stepped
+    ensures { λ r. ⌜ r ≡ record { fault = fault; progress = p } ⌝ }
+{
+    Stepped {
+        fault: fault,
+        progress: p,
+    }
+}
+
 // One record, of kind k: its fault, or 0 and the progress after it.
 fn step_of_kind(sheet: &[u8], table: &mut [u32; 255], p: Progress, k: u8) -> Stepped
     requires { ⌜ (p .count < 255) × (p .at < length (now sheet)) × (k ≡ getD (now sheet) (p .at) 0) ⌝ }
@@ -367,27 +376,18 @@ fn step_of_kind(sheet: &[u8], table: &mut [u32; 255], p: Progress, k: u8) -> Ste
     let at = p.at;
     let s = shape_of(k);
     if s.sort == 0 {
-        return Stepped {
-            fault: 1,
-            progress: p,
-        };
+        return faulted(1, p);
     }
     let left = sheet.len() - (at + 1);
     if left < (s.body as usize) {
-        return Stepped {
-            fault: 2,
-            progress: p,
-        };
+        return faulted(2, p);
     }
     let a = body_byte(sheet, at, s, 1);
     let b = body_byte(sheet, at, s, 2);
     let v = vacuous_of(table, p.count, k, a, b);
     let f = body_fault(table, p.count, s, a, b);
     if f != 0 {
-        return Stepped {
-            fault: f,
-            progress: p,
-        };
+        return faulted(f, p);
     }
     let e = Entry {
         kind: k,

@@ -11,8 +11,11 @@ use Rattle.tbox.proofs.records.step_of_kind.Tie as tie
 shape-of-requires : tie.Need-shape-of-requires
 shape-of-requires c κs = search needs
 
+faulted-requires : tie.Need-faulted-requires
+faulted-requires c κs = search needs
+
 returns : tie.Need-returns
-returns c = took-fault _ _ _ _ _ _ (unknown-kind _ _ _ (c .before .before .shape-of .ensures ∙ ap shapeOf (c .before .before .before .before .pre .2)) (c .if1 .taken)) (omega arith)
+returns c = rw (c .faulted .ensures) (took-fault _ _ _ _ _ _ (unknown-kind _ _ _ (c .before .before .before .shape-of .ensures ∙ ap shapeOf (c .before .before .before .before .before .pre .2)) (c .before .if1 .taken)) (omega arith))
 
 add-left : tie.Need-add-left
 add-left c = search needs
@@ -23,8 +26,11 @@ sub-left c = search needs
 cast-if2 : tie.Need-cast-if2
 cast-if2 c = search needs
 
+faulted-requires-2 : tie.Need-faulted-requires-2
+faulted-requires-2 c κs = search needs
+
 returns-2 : tie.Need-returns-2
-returns-2 c = took-fault _ _ _ _ _ _ (cut-off _ _ _ (c .before .before .before .before .shape-of .ensures ∙ ap shapeOf (c .before .before .before .before .before .before .pre .2)) (c .before .before .if1 .left) (c .if2 .taken)) (omega arith)
+returns-2 c = rw (c .faulted2 .ensures) (took-fault _ _ _ _ _ _ (cut-off _ _ _ (c .before .before .before .before .before .shape-of .ensures ∙ ap shapeOf (c .before .before .before .before .before .before .before .pre .2)) (c .before .before .before .if1 .left) (c .before .if2 .taken)) (omega arith))
 
 body-byte-requires : tie.Need-body-byte-requires
 body-byte-requires c κs = search needs
@@ -38,8 +44,11 @@ vacuous-of-requires c κs = search needs
 body-fault-requires : tie.Need-body-fault-requires
 body-fault-requires c κs = search needs
 
+faulted-requires-3 : tie.Need-faulted-requires-3
+faulted-requires-3 c κs = search needs
+
 returns-3 : tie.Need-returns-3
-returns-3 c = took-fault _ _ _ _ _ _ (of-body _ _ _ (c .before .before .before .before .before .before .before .before .before .before .before .shape-of .ensures ∙ ap shapeOf (c .before .before .before .before .before .before .before .before .before .before .before .before .before .pre .2)) (c .before .before .before .before .before .before .before .before .before .if1 .left) (c .before .before .before .before .before .before .before .if2 .left) _ _ _ (c .before .before .before .before .before .before .body-byte .ensures) (c .before .before .before .before .before .body-byte2 .ensures) (c .before .body-fault .ensures .fault)) (c .if3 .taken)
+returns-3 c = rw (c .faulted3 .ensures) (took-fault _ _ _ _ _ _ (of-body _ _ _ (c .before .before .before .before .before .before .before .before .before .before .before .before .shape-of .ensures ∙ ap shapeOf (c .before .before .before .before .before .before .before .before .before .before .before .before .before .before .pre .2)) (c .before .before .before .before .before .before .before .before .before .before .if1 .left) (c .before .before .before .before .before .before .before .before .if2 .left) _ _ _ (c .before .before .before .before .before .before .before .body-byte .ensures) (c .before .before .before .before .before .before .body-byte2 .ensures) (c .before .before .body-fault .ensures .fault)) (c .before .if3 .taken))
 
 is-leaf-requires : tie.Need-is-leaf-requires
 is-leaf-requires c κs = search needs
@@ -55,15 +64,18 @@ step-of-kind-spec =
     tie.close
     (tie.spec
     shape-of-requires
+    faulted-requires
     returns
     add-left
     sub-left
     cast-if2
+    faulted-requires-2
     returns-2
     body-byte-requires
     body-byte-requires-2
     vacuous-of-requires
     body-fault-requires
+    faulted-requires-3
     returns-3
     is-leaf-requires
     append-requires
