@@ -1,1 +1,4 @@
+pub mod Facts
 pub mod Laws
+pub mod Words
+pub mod Sizes

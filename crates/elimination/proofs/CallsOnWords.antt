@@ -1,0 +1,150 @@
+-- Open, strike and settle on words do to the set what they should, and demand 3 holds of the words.
+-- Assumes of the test of defects that it is monotone, and nothing else.
+use mathlib.Core.Path.{_≡_, refl, sym, ap, subst, _∙_}
+use mathlib.Core.Bool.{Bool, true, false, not, _&&_, cond}
+use mathlib.Core.List.{List, [], _∷_}
+use Prim.Native.Nat.{ℕ, _*_, _/_, _%_, _≤_, _<_}
+use native.Mathlib.Omega.{arith}
+use lib.Dec.{T, eqb, ltb, eqb→eq, ltb→lt, lt→ltb, T-not, not-T}
+use lib.ListN.{getD, take, drop, length, length-append, List·getD-append}
+use lib.Seq.{drop-set-lt, drop-at}
+use Rattle.bitset.specs.Bits.{Set, bit, look, word, words, areWords, without, cleared}
+use Rattle.elimination.specs.Sets.{below, Same}
+use Rattle.elimination.specs.Elimination.{isStable, settled, Monotone, Within, defectiveBy, canonical}
+use Rattle.elimination.specs.Calls.{Call, strike, settle, runWith, act, runCalls, struck, written, actWords, after, Demand3Words}
+use Rattle.bitset.proofs.Facts.{and-left, and-right, and-both, T-same, T-of}
+use Rattle.bitset.proofs.Words.{look-words, words-length, words-are, words-same, are-cleared, length-cleared, look-cleared, are-append, are-drop, front}
+use Rattle.elimination.proofs.Settling.{same-sub′, stable-same, defectiveBy-mono, within-remove, within-same, within-stable}
+use Rattle.elimination.proofs.Calls.{run-seen, run-same, run-holds, run-stable, passes-stable}
+
+-- the words past the first k do not see a bit cleared
+drop-cleared : (k : ℕ) (ws : List ℕ) (n : ℕ) → n / 64 < k → drop k (cleared ws n) ≡ drop k ws
+unfolding cleared
+drop-cleared k ws n h = drop-set-lt k ws (n / 64) (word 64 (without (bit (getD ws (n / 64) 0)) (n % 64))) h
+
+-- the words written have the members below N
+pub look-written : (k N : ℕ) (D : Set) (ws : List ℕ) → Same (64 * k) (look (written k N D ws)) (below N D)
+look-written k N D ws p h =
+    let n = words-length k (below N D) in
+    ap (λ (x : ℕ). bit x (p % 64)) (List·getD-append (words k (below N D)) (drop k ws) 0 (p / 64) (omega arith))
+    ∙ look-words k (below N D) p h
+
+-- members below N alone, the same as another set's
+below-by : (k N : ℕ) (D E : Set) → ((p : ℕ) → p < 64 * k → T (D p) → p < N) → Same N D E → Same (64 * k) D (below N E)
+below-by k N D E spare e p h =
+    T-same (D p) (below N E p)
+    (λ u. let q : p < N = spare p h u in and-both (ltb p N) (E p) (lt→ltb p N q) (T-of (e p q) u))
+    (λ u. let q : p < N = ltb→lt p N (and-left (ltb p N) (E p) u) in T-of (sym (e p q)) (and-right (ltb p N) (E p) u))
+
+-- ---- settling in place: a loop that clears the bits of defective members keeps `Within`, and where the set is stable
+-- the words are those of what settling leaves
+module _ (k N : ℕ) (room : N ≤ 64 * k) (defective : Set → ℕ → Bool) (mono : Monotone N defective) (D : Set) where
+  pub within-cleared : (ws : List ℕ) (n : ℕ) → k ≤ length ws → n < N → Within N defective D (look ws) → T (defective (look ws) n) → Within N defective D (look (cleared ws n))
+  within-cleared ws n l h w t =
+      within-same N defective mono D (without (look ws) n) (look (cleared ws n)) (within-remove N defective mono D (look ws) n w t)
+      (λ p q. sym (look-cleared ws n (omega arith) p))
+
+  pub within-ends : (ws : List ℕ) → T (areWords ws) → k ≤ length ws → ((p : ℕ) → p < 64 * k → T (look ws p) → p < N)
+      → Within N defective D (look ws) → T (isStable N defective (look ws)) → take k ws ≡ words k (below N (settled N defective D))
+  within-ends ws t l spare w r =
+      let e = within-stable N defective mono D (look ws) w r in
+      front k ws t l ∙ words-same k (look ws) (below N (settled N defective D)) (below-by k N (look ws) (settled N defective D) spare e)
+
+-- a choice by a test
+cond-case : (P : List ℕ → Type 0) (b : Bool) (x y : List ℕ) → (T b → P x) → (T (not b) → P y) → P (cond b x y)
+cond-case P true x y f g = f tt
+cond-case P false x y f g = g tt
+
+module _ (k N : ℕ) (room : N ≤ 64 * k) (ws₀ : List ℕ) where
+  -- what every call keeps of the words
+  record Intact (ws : List ℕ) : Type 0 where
+    are : T (areWords ws)
+    long : k ≤ length ws
+    past : drop k ws ≡ drop k ws₀
+    spare : (p : ℕ) → p < 64 * k → T (look ws p) → p < N
+
+  written-intact : (D : Set) (ws : List ℕ) → T (areWords ws) → k ≤ length ws → drop k ws ≡ drop k ws₀ → Intact (written k N D ws)
+  written-intact D ws t l e =
+      let n = words-length k (below N D) in
+      record {
+        are = are-append (words k (below N D)) (drop k ws) (words-are k (below N D)) (are-drop k ws t);
+        long = omega (arith, length-append (words k (below N D)) (drop k ws));
+        past = drop-at (words k (below N D)) (drop k ws) k n ∙ e;
+        spare = λ p h u. ltb→lt p N (and-left (ltb p N) (D p) (T-of (look-written k N D ws p h) u));
+      }
+
+  written-sees : (D : Set) (ws : List ℕ) → Same N (look (written k N D ws)) D
+  written-sees D ws p h =
+      look-written k N D ws p (omega arith)
+      ∙ T-same (ltb p N && D p) (D p) (and-right (ltb p N) (D p)) (and-both (ltb p N) (D p) (lt→ltb p N h))
+
+  module _ (defective : Set → ℕ → Bool) where
+    stay : (c : Call) (ws : List ℕ) → Intact ws → Intact (actWords k N defective c ws)
+    stay (strike n) ws g =
+        cond-case Intact (ltb n N && (look ws n && defective (look ws) n)) (cleared ws n) ws
+        (λ t.
+        let h : n < N = ltb→lt n N (and-left (ltb n N) (look ws n && defective (look ws) n) t) in
+        let l : k ≤ length ws = g .long in
+        record {
+          are = are-cleared ws n (g .are);
+          long = omega (arith, length-cleared ws n);
+          past = drop-cleared k ws n (omega arith) ∙ g .past;
+          spare = λ p l u. g .spare p l (and-left (look ws p) (not (eqb p n)) (T-of (look-cleared ws n (omega arith) p) u));
+        })
+        (λ t. g)
+    stay settle ws g = written-intact (settled N defective (look ws)) ws (g .are) (g .long) (g .past)
+
+    does : (c : Call) (ws : List ℕ) → Intact ws → Same N (look (actWords k N defective c ws)) (act N defective c (look ws))
+    does (strike n) ws g =
+        cond-case (λ (vs : List ℕ). Same N (look vs) (struck N defective (look ws) n)) (ltb n N && (look ws n && defective (look ws) n)) (cleared ws n) ws
+        (λ t p h.
+        let m : n < N = ltb→lt n N (and-left (ltb n N) (look ws n && defective (look ws) n) t) in
+        let l : k ≤ length ws = g .long in
+        look-cleared ws n (omega arith) p
+        ∙ ap (λ (b : Bool). look ws p && not b)
+        (T-same (eqb p n) (eqb p n && (ltb n N && defective (look ws) n))
+        (λ u. and-both (eqb p n) (ltb n N && defective (look ws) n) u
+        (and-both (ltb n N) (defective (look ws) n) (lt→ltb n N m)
+        (and-right (look ws n) (defective (look ws) n) (and-right (ltb n N) (look ws n && defective (look ws) n) t))))
+        (and-left (eqb p n) (ltb n N && defective (look ws) n))))
+        (λ t p h.
+        T-same (look ws p) (struck N defective (look ws) n p)
+        (λ u. and-both (look ws p) (not (eqb p n && (ltb n N && defective (look ws) n))) u
+        (not-T (eqb p n && (ltb n N && defective (look ws) n))
+        (λ v.
+        let e : p ≡ n = eqb→eq p n (and-left (eqb p n) (ltb n N && defective (look ws) n) v) in
+        let w : T (ltb n N && defective (look ws) n) = and-right (eqb p n) (ltb n N && defective (look ws) n) v in
+        T-not (ltb n N && (look ws n && defective (look ws) n)) t
+        (and-both (ltb n N) (look ws n && defective (look ws) n) (and-left (ltb n N) (defective (look ws) n) w)
+        (and-both (look ws n) (defective (look ws) n) (subst (λ (m : ℕ). T (look ws m)) e u) (and-right (ltb n N) (defective (look ws) n) w))))))
+        (and-left (look ws p) (not (eqb p n && (ltb n N && defective (look ws) n)))))
+    does settle ws g = written-sees (settled N defective (look ws)) ws
+
+    stays : (cs : List Call) (ws : List ℕ) → Intact ws → Intact (runWith (actWords k N defective) cs ws)
+    stays [] ws g = g
+    stays (c ∷ cs) ws g = stays cs (actWords k N defective c ws) (stay c ws g)
+
+-- ---- demand 3 on words
+module _ (k N : ℕ) (initial : Set) (lacks : Set → ℕ → Bool) (mono : Monotone N lacks) (room : N ≤ 64 * k) where
+  pub demand-3-words : (cs : List Call) (ws : List ℕ) → T (areWords ws) → k ≤ length ws → Demand3Words k N initial lacks cs ws
+  demand-3-words cs ws t l =
+      let defective = defectiveBy initial lacks in
+      let opened = written k N initial ws in
+      let lm : Monotone N (defectiveBy initial lacks) = defectiveBy-mono N initial lacks mono in
+      let start : Intact k N room ws opened = written-intact k N room ws initial ws t l refl in
+      let end : Intact k N room ws (after k N initial lacks cs ws) = stays k N room ws defective cs opened start in
+      let seen : Same N (look (after k N initial lacks cs ws)) (runCalls N (defectiveBy initial lacks) cs initial) = λ p h.
+      run-seen N defective lm (List ℕ) look (actWords k N defective) (Intact k N room ws) (stay k N room ws defective) (does k N room ws defective) cs opened start p h
+      ∙ run-same N defective lm cs (look opened) initial (written-sees k N room ws initial ws) p h in
+      let arrived : T (isStable N (defectiveBy initial lacks) (look (after k N initial lacks cs ws))) → Same N (look (after k N initial lacks cs ws)) (canonical N initial lacks) = λ r p h.
+      seen p h ∙ run-stable N defective lm cs initial (stable-same N defective lm (look (after k N initial lacks cs ws)) (runCalls N defective cs initial) seen r) p h in
+      record {
+        past = end .past;
+        keeps = λ p h u. same-sub′ N (look (after k N initial lacks cs ws)) (runCalls N defective cs initial) seen p h (run-holds N defective lm cs initial p h u);
+        exact = λ r.
+            front k (after k N initial lacks cs ws) (end .are) (end .long)
+            ∙ words-same k (look (after k N initial lacks cs ws)) (below N (canonical N initial lacks))
+            (below-by k N (look (after k N initial lacks cs ws)) (canonical N initial lacks) (end .spare) (arrived r));
+        ends = λ r w z.
+            stable-same N defective lm (runCalls N defective cs initial) (look (after k N initial lacks cs ws)) (λ p h. sym (seen p h)) (passes-stable N defective lm r cs initial w z);
+      }

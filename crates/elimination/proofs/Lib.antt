@@ -1,0 +1,6 @@
+pub mod Tests
+pub mod Settling
+pub mod Calls
+pub mod Passes
+pub mod CallsOnWords
+pub mod Tables

@@ -1,0 +1,4 @@
+pub mod Sets
+pub mod Elimination
+pub mod Tables
+pub mod Calls
