@@ -4,6 +4,7 @@ use mathlib.Core.Bool.{Bool, true, false, _&&_}
 use mathlib.Core.List.{List, [], _∷_, _++_, append-assoc, append-nil}
 use Prim.Native.Nat.{ℕ, zero, suc}
 use lib.Dec.{T, eqb}
+use Rattle.elimination.specs.Sets.{every}
 use Rattle.elimination.specs.Calls.{Call, strike, settle, strikes, someCut, pass, Passes, hasPasses}
 use Rattle.bitset.proofs.Facts.{and-left, and-right, and-both}
 use Rattle.elimination.proofs.Tests.{or-cases, or-left, or-right, every-at, every-by}
@@ -54,7 +55,9 @@ module _ (N : ℕ) where
 
 -- it computes: below 2 there are two passes here, with a settling and a refused strike among them, and not three
 two : hasPasses 2 2 (strike 1 ∷ settle ∷ strike 0 ∷ strike 7 ∷ strike 0 ∷ strike 0 ∷ strike 1 ∷ []) ≡ true
+unfolding every
 two = refl
 
 not-three : hasPasses 2 3 (strike 1 ∷ settle ∷ strike 0 ∷ strike 7 ∷ strike 0 ∷ strike 0 ∷ strike 1 ∷ []) ≡ false
+unfolding every
 not-three = refl

@@ -29,17 +29,20 @@ or-right true b t = tt
 or-right false b t = t
 
 pub every-at : (n : ℕ) (f : ℕ → Bool) → T (every n f) → (p : ℕ) → p < n → T (f p)
+unfolding every
 every-at zero f t p h = absurd (not-suc-le-zero h)
 every-at (suc n) f t p h =
     below-suc p n h (λ e. subst (λ (k : ℕ). T (f k)) (sym e) (and-left (f n) (every n f) t))
     (every-at n f (and-right (f n) (every n f) t) p)
 
 pub every-by : (n : ℕ) (f : ℕ → Bool) → ((p : ℕ) → p < n → T (f p)) → T (every n f)
+unfolding every
 every-by zero f h = tt
 every-by (suc n) f h = and-both (f n) (every n f) (h n (le-refl (suc n))) (every-by n f (λ p l. h p (omega arith)))
 
 -- a test that does not pass everywhere fails somewhere
 pub every-not : (n : ℕ) (f : ℕ → Bool) → T (not (every n f)) → (p : ℕ) × (p < n) × T (not (f p))
+unfolding every
 every-not zero f t = absurd t
 every-not (suc n) f t =
     either (f n)
@@ -47,12 +50,14 @@ every-not (suc n) f t =
     (λ s. (n, le-refl (suc n), s))
 
 pub some-at : (n : ℕ) (f : ℕ → Bool) → T (some n f) → (p : ℕ) × (p < n) × T (f p)
+unfolding some
 some-at zero f t = absurd t
 some-at (suc n) f t =
     or-cases (f n) (some n f) t (λ u. (n, le-refl (suc n), u))
     (λ u. let r = some-at n f u in (r .0, omega (arith, r .1), r .2))
 
 pub some-by : (n : ℕ) (f : ℕ → Bool) (p : ℕ) → p < n → T (f p) → T (some n f)
+unfolding some
 some-by zero f p h t = absurd (not-suc-le-zero h)
 some-by (suc n) f p h t =
     below-suc p n h (λ e. or-left (f n) (some n f) (subst (λ (k : ℕ). T (f k)) e t))

@@ -6,12 +6,12 @@ use lib.Dec.{T, ltb}
 use Rattle.bitset.specs.Bits.{Set}
 
 -- the test passes at each number below n. The `let` waits: the search stops where the answer is known
-abbrev pub every : ℕ → (ℕ → Bool) → Bool
+unfoldable pub every : ℕ → (ℕ → Bool) → Bool
 every zero f = true
 every (suc n) f = let r = every n f in f n && r
 
 -- it passes at one of them
-abbrev pub some : ℕ → (ℕ → Bool) → Bool
+unfoldable pub some : ℕ → (ℕ → Bool) → Bool
 some zero f = false
 some (suc n) f = let r = some n f in f n || r
 

@@ -1,0 +1,12 @@
+pub mod Truths
+pub mod Numbers
+pub mod NormalForm
+pub mod Flattening
+pub mod Meaning
+pub mod Defects
+pub mod Canonical
+pub mod Projecting
+pub mod Stability
+pub mod Layering
+pub mod Rising
+pub mod Verdict

@@ -1,0 +1,109 @@
+-- The six conditions (01, "Pairings and the six conditions"; 002, Definition 5). Assumes nothing: these are definitions.
+use Prim.Native.Nat.{ℕ, _+_, _*_, _^_}
+use mathlib.Core.Path.{_≡_}
+use mathlib.Core.Bool.{Bool, true, not, _&&_, _||_, cond}
+use lib.Dec.{eqb, ltb}
+use Rattle.bitset.specs.Bits.{Set, bit}
+use Rattle.elimination.specs.Sets.{every, some}
+use Rattle.elimination.specs.Elimination.{defectiveBy, canonical}
+use Rattle.semantics.specs.Dominoes.{Dominoes, Domino, total, leftOf, rolesOf, rightOf, inverse, numbered}
+
+-- what the conditions look at: the number of parts and of roles; of part k its kind (2 existential, 3 universal), whether its
+-- role holds on the role set R, and whether its filler is in the label B; and the labels on which every flattened axiom is true
+pub record View : Type 0 where
+  pub parts : ℕ
+  pub roles : ℕ
+  pub kind : ℕ → ℕ
+  pub holds : ℕ → ℕ → Bool
+  pub has : ℕ → ℕ → Bool
+  pub good : ℕ → Bool
+
+module _ (v : View) where
+  -- 1, kb: "each flattened rule, with marks in A true and the others false, comes out true"
+  unfoldable pub kb : ℕ → Bool
+  kb A = v .good A
+
+  -- 2, ex: "each some-mark whose link holds on R and whose filler is in B is in A"
+  unfoldable pub ex : ℕ → ℕ → ℕ → Bool
+  ex A R B = every (v .parts) (λ k. not (eqb (v .kind k) 2 && (v .holds k R && v .has k B)) || bit A k)
+
+  -- 3, uni: "each only-mark in A whose link holds on R has its filler in B"
+  unfoldable pub uni : ℕ → ℕ → ℕ → Bool
+  uni A R B = every (v .parts) (λ k. not (eqb (v .kind k) 3 && (bit A k && v .holds k R)) || v .has k B)
+
+  -- "a pairing in the set with the same A, whose links satisfy the mark's link" and whose right label passes a test; 01 calls
+  -- this a partner
+  unfoldable pub witness : Dominoes → ℕ → ℕ → (ℕ → Bool) → Bool
+  witness D A k test = some (2 ^ (2 * v .roles)) (λ R. let r = some (2 ^ v .parts) (λ B. test B && D A R B) in v .holds k R && r)
+
+  -- 4, delex: "each some-mark in A has a pairing in the set with the same A, .. whose right side has the filler"
+  unfoldable pub delex : Dominoes → ℕ → Bool
+  delex D A = every (v .parts) (λ k. let w = witness D A k (v .has k) in not (eqb (v .kind k) 2 && bit A k) || w)
+
+  -- 5, deluni: "each only-mark not in A has a pairing in the set with the same A, .. whose right side lacks the filler"
+  unfoldable pub deluni : Dominoes → ℕ → Bool
+  deluni D A = every (v .parts) (λ k. let w = witness D A k (λ B. not (v .has k B)) in not (eqb (v .kind k) 3 && not (bit A k)) || w)
+
+  -- 6, sym: "(B, mirror of R, A) is in the set"
+  unfoldable pub sym : Dominoes → ℕ → ℕ → ℕ → Bool
+  sym D A R B = D B (inverse (v .roles) R) A
+
+  -- the number of the first condition that fails, 0 for none: "A pairing is loose in a set if it fails one of"
+  unfoldable pub defect : Dominoes → ℕ → ℕ → ℕ → ℕ
+  defect D A R B =
+      cond (kb A) (cond (ex A R B) (cond (uni A R B)
+      (cond (delex D A) (cond (deluni D A) (cond (sym D A R B) 0 6) 5) 4) 3) 2) 1
+
+  -- conditions 1 to 3: "The opening set is all pairings that meet 1 to 3."
+  unfoldable pub initially : ℕ → ℕ → ℕ → Bool
+  initially A R B = kb A && (ex A R B && uni A R B)
+
+  -- conditions 4 to 6, which depend on the set
+  unfoldable pub sustained : Dominoes → ℕ → ℕ → ℕ → Bool
+  sustained D A R B = delex D A && (deluni D A && sym D A R B)
+
+  -- nothing is defective in the set D
+  unfoldable pub Stable : Dominoes → Type 0
+  Stable D = (A R B : ℕ) → D A R B ≡ true → defect D A R B ≡ 0
+
+  -- the members of D are dominoes
+  unfoldable pub InRange : Dominoes → Type 0
+  InRange D = (A R B : ℕ) → D A R B ≡ true → Domino (v .parts) (v .roles) A R B
+
+  -- "the set of pairings in which none is loose and of which every other such set is a part"
+  pub record LargestStable (D : Dominoes) : Type 0 where
+    pub inside : InRange D
+    pub stable : Stable D
+    pub most : (E : Dominoes) → InRange E → Stable E → (A R B : ℕ) → E A R B ≡ true → D A R B ≡ true
+
+  -- ---- on numbers: the instance of elimination
+
+  abbrev pub dominoes : ℕ
+  dominoes = total (v .parts) (v .roles)
+
+  -- the initial domino set, 002's 𝔻₀
+  unfoldable pub initial : Set
+  initial n = initially (leftOf (v .parts) (v .roles) n) (rolesOf (v .parts) (v .roles) n) (rightOf (v .parts) n)
+
+  unfoldable pub lacks : Set → ℕ → Bool
+  lacks S n =
+      not (sustained (numbered (v .parts) (v .roles) S)
+      (leftOf (v .parts) (v .roles) n) (rolesOf (v .parts) (v .roles) n) (rightOf (v .parts) n))
+
+  -- is domino n defective in the set; the number of its first failing condition
+  abbrev pub defective : Set → ℕ → Bool
+  defective = defectiveBy initial lacks
+
+  unfoldable pub defectAt : Set → ℕ → ℕ
+  defectAt S n =
+      defect (numbered (v .parts) (v .roles) S)
+      (leftOf (v .parts) (v .roles) n) (rolesOf (v .parts) (v .roles) n) (rightOf (v .parts) n)
+
+  -- the canonical domino set, 002's 𝔻_KB: what judging leaves
+  unfoldable pub canon : Set
+  canon = canonical dominoes initial lacks
+
+  -- the same as a set of dominoes
+  unfoldable pub canonDominoes : Dominoes
+  canonDominoes A R B =
+      ltb A (2 ^ v .parts) && (ltb R (2 ^ (2 * v .roles)) && (ltb B (2 ^ v .parts) && numbered (v .parts) (v .roles) canon A R B))

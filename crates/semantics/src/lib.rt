@@ -1,0 +1,1 @@
+// The theory of elimination: all of it is in specs/ and proofs/.
