@@ -19,8 +19,8 @@ use Rattle.tbox.specs.Truth.{roleOn}
 use Rattle.tbox.specs.Bounds.{AxiomRoles, RolesBelow, PartRole}
 use Rattle.tbox.specs.Reading.{Kb, kb, flatsOf, partsOf, readKb}
 use Rattle.tbox.proofs.Promised.{kb-bounded, kb-restricted}
-use Rattle.semantics.specs.Interpretations.{Interpretation, models}
-use Rattle.semantics.specs.Dominoes.{Dominoes, total, leftOf, rolesOf, rightOf, unnumbered}
+use Rattle.semantics.specs.Interpretations.{Interpretation, models, Satisfiable}
+use Rattle.semantics.specs.Dominoes.{Dominoes, Met, total, leftOf, rolesOf, rightOf, unnumbered}
 use Rattle.semantics.specs.Conditions.{InRange, LargestStable, canonDominoes}
 use Rattle.semantics.specs.Views.{viewOf, kbView}
 use Rattle.semantics.specs.Projection.{partsIn, roleBit, roleSet, projectionOf, projection}
@@ -35,13 +35,6 @@ use Rattle.semantics.proofs.Projecting.{role-even, role-odd, domino-in,
 use Rattle.semantics.proofs.Stability.{stable-sym}
 use Rattle.semantics.proofs.Layering.{Layout, layout-labelling, layers-layout, next-at, roles-on, roles-none}
 use Rattle.semantics.proofs.Rising.{rising-enumerates}
-
--- some domino is in the set; some finite interpretation of at least one individual models the axioms
-abbrev pub Met : Dominoes → Type 0
-Met C = (A : ℕ) × (R : ℕ) × (B : ℕ) × (C A R B ≡ true)
-
-abbrev pub Kept : List Axiom → Type 0
-Kept s = (I : Interpretation) × (0 < I .individuals) × (models I s ≡ true)
 
 -- axioms flattened somehow, their roles below L and each false on no roles, and the largest stable set
 module _ (s : List Axiom) (L : ℕ) (ps : List Part) (fs : List Flat) (F : Flattens s ps fs)
@@ -65,8 +58,8 @@ module _ (s : List Axiom) (L : ℕ) (ps : List Part) (fs : List Flat) (F : Flatt
   model-in I e = labelling-in I (partsIn I (partAt ps)) (models-labelling I s ps fs F e) (parts-out I ps)
 
   -- a model of at least one individual has a domino
-  pub kept-met : (I : Interpretation) → 0 < I .individuals → models I s ≡ true → Met C
-  kept-met I pos e = (_, _, _, model-in I e _ _ _ (domino-in I L (length ps) (partsIn I (partAt ps)) 0 0 pos pos))
+  pub satisfiable-met : (I : Interpretation) → 0 < I .individuals → models I s ≡ true → Met C
+  satisfiable-met I pos e = (_, _, _, model-in I e _ _ _ (domino-in I L (length ps) (partsIn I (partAt ps)) 0 0 pos pos))
 
   -- the layered interpretation of the set
   module _ (m : ℕ) (a r b : ℕ → ℕ) (E : Enumerates C m a r b) (pos : 0 < m) where
@@ -165,9 +158,9 @@ module _ (s : List Axiom) (L : ℕ) (ps : List Part) (fs : List Flat) (F : Flatt
   risen : List ℕ
   risen = rising (unnumbered (length ps) L C) (total (length ps) L)
 
-  pub met-kept : Met C → Kept s
+  pub met-satisfiable : Met C → Satisfiable s
   unfolding risen
-  met-kept w =
+  met-satisfiable w =
       let c : ℕ = length ps in
       let m : ℕ = length risen in
       let a : ℕ → ℕ = λ i. leftOf c L (getD risen i 0) in
@@ -180,10 +173,10 @@ module _ (s : List Axiom) (L : ℕ) (ps : List Part) (fs : List Flat) (F : Flatt
 -- 002, Theorem 1
 pub theorem : (s : List Axiom) (L : ℕ) (ps : List Part) (fs : List Flat) → Flattens s ps fs
     → AxiomRoles (RolesBelow L) s → AxiomRoles (λ u. roleOn u 0 ≡ false) s
-    → (C : Dominoes) → LargestStable (viewOf L fs ps) C → Met C ↔ Kept s
+    → (C : Dominoes) → LargestStable (viewOf L fs ps) C → Met C ↔ Satisfiable s
 theorem s L ps fs F below restricted C best = (
-  met-kept s L ps fs F below restricted C best,
-  λ w. kept-met s L ps fs F below restricted C best (w .0) (w .1) (w .2),
+  met-satisfiable s L ps fs F below restricted C best,
+  λ w. satisfiable-met s L ps fs F below restricted C best (w .0) (w .1) (w .2),
 )
 
 -- 02, N4: two flattenings of one knowledge base have one verdict
@@ -202,7 +195,7 @@ module _ (limit : ℕ) (sheet : List ℕ) (k : Kb) (e : readKb limit sheet ≡ k
   flat = flatten-flattens (k .names) (k .axioms) (kb-bounded limit sheet e .names)
 
   -- the canonical domino set is not empty exactly if the knowledge base has a finite model
-  pub sheet-verdict : Met (canonDominoes (kbView k)) ↔ Kept (k .axioms)
+  pub sheet-verdict : Met (canonDominoes (kbView k)) ↔ Satisfiable (k .axioms)
   sheet-verdict =
       theorem (k .axioms) (k .roles) (partsOf k) (flatsOf k) flat (kb-bounded limit sheet e .roles) (kb-restricted limit sheet e)
       (canonDominoes (kbView k)) (canon-largest (kbView k))

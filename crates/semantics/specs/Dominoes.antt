@@ -1,12 +1,17 @@
 -- The numbers of dominoes (A, R, B), for c parts and L roles. 01 calls a domino a pairing. Assumes nothing: these are
 -- definitions.
 use Prim.Native.Nat.{ℕ, zero, suc, _+_, _*_, _/_, _%_, _^_, _<_}
-use mathlib.Core.Bool.{Bool}
+use mathlib.Core.Path.{_≡_}
+use mathlib.Core.Bool.{Bool, true}
 use Rattle.bitset.specs.Bits.{Set}
 
 -- a set of dominoes: is (A, R, B) in it
 abbrev pub Dominoes : Type 0
 Dominoes = ℕ → ℕ → ℕ → Bool
+
+-- the set has a member
+abbrev pub Met : Dominoes → Type 0
+Met D = (A : ℕ) × (R : ℕ) × (B : ℕ) × (D A R B ≡ true)
 
 -- how many dominoes there are, "2^(2c+2L)"
 abbrev pub total : ℕ → ℕ → ℕ

@@ -1,6 +1,7 @@
 -- Finite interpretations, what holds of an individual (002, Table 1), and models of a knowledge base as written. Assumes
 -- nothing: these are definitions.
-use Prim.Native.Nat.{ℕ}
+use Prim.Native.Nat.{ℕ, _<_}
+use mathlib.Core.Path.{_≡_}
 use mathlib.Core.Bool.{Bool, true, false, not, _&&_, _||_}
 use mathlib.Core.List.{List, [], _∷_}
 use Rattle.elimination.specs.Sets.{every, some}
@@ -41,7 +42,11 @@ unfoldable pub models : Interpretation → List Axiom → Bool
 models I [] = true
 models I (a ∷ s) = satisfies I a && models I s
 
--- the same of a concept in negation normal form
+-- 002: a knowledge base is satisfiable. A finite interpretation of at least one individual is a model
+abbrev pub Satisfiable : List Axiom → Type 0
+Satisfiable s = (I : Interpretation) × (0 < I .individuals) × (models I s ≡ true)
+
+-- what holds of an individual, of a concept in negation normal form
 unfoldable pub holdsNf : Interpretation → Nf → ℕ → Bool
 holdsNf I topN x = true
 holdsNf I bottomN x = false

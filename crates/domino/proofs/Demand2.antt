@@ -1,0 +1,176 @@
+-- Demand 2: judging leaves the canonical set, the largest stable set; its verdict, its counts, and models. Assumes nothing.
+use mathlib.Core.Path.{_≡_, refl, sym as flip, ap, _∙_}
+use mathlib.Core.Logic.{_⊎_, inl, inr}
+use mathlib.Core.Bool.{Bool, true, false, not, _&&_, cond}
+use mathlib.Core.List.{List, [], _∷_}
+use Prim.Native.Nat.{ℕ, zero, suc, _+_, _*_, _^_, _≤_, _<_}
+use native.Mathlib.Nat.{le-refl}
+use native.Mathlib.Omega.{arith}
+use lib.Dec.{T, eqb, T-not}
+use lib.ListN.{length, getD, take}
+use borrow.Author.Tests.{eqb-true, eqb-false}
+use Rattle.bitset.specs.Bits.{Set, look, areWords, size, onesOf}
+use Rattle.bitset.proofs.Facts.{either, and-left, and-right, T-of}
+use Rattle.bitset.proofs.Sizes.{size-none}
+use Rattle.elimination.specs.Sets.{Same, some}
+use Rattle.elimination.specs.Elimination.{isStable, steps}
+use Rattle.elimination.proofs.Tests.{some-at, some-by}
+use Rattle.elimination.proofs.Settling.{stable-same, canonical-largest, definition-5}
+use Rattle.tbox.specs.Reading.{Kb, kb, readKb}
+use Rattle.tbox.specs.Answers.{limit}
+use Rattle.semantics.specs.Dominoes.{Met, Domino, number, leftOf, rolesOf, rightOf, inverse, unnumbered}
+use Rattle.semantics.specs.Conditions.{View, dominoes, initial, lacks, defective, canon, canonDominoes}
+use Rattle.semantics.specs.Views.{kbView}
+use Rattle.semantics.proofs.Truths.{is-true, of-true, not-true}
+use Rattle.semantics.proofs.Numbers.{run-lt, number-lt}
+use Rattle.semantics.proofs.Defects.{lacks-monotone, defective-monotone}
+use Rattle.semantics.proofs.Canonical.{dominoesOf, of-domino, of-number, of-unnumbered, canon-stable, canon-largest, canon-sym}
+use Rattle.semantics.proofs.Verdict.{sheet-verdict, model-dominoes}
+use Rattle.domino.specs.Answers.{held, begins, strands, judgeSays, judgeLeaves}
+use Rattle.domino.specs.Demanded.{Demand2, Demand2Models}
+use Rattle.domino.proofs.Saying.{held-room, written-look, written-spare, written-ones, open-leaves, judge-says, judge-leaves, stable-words, words-stable}
+
+-- ---- the canonical set on numbers and as dominoes
+
+module _ (v : View) where
+  -- a domino is in it exactly if its number is
+  canon-number : (A R B : ℕ) → Domino (v .parts) (v .roles) A R B → canon v (number (v .parts) (v .roles) A R B) ≡ canonDominoes v A R B
+  unfolding canonDominoes dominoesOf
+  canon-number A R B d = flip (of-number v (canon v) A R B d)
+
+  canon-range : (A R B : ℕ) → canonDominoes v A R B ≡ true → Domino (v .parts) (v .roles) A R B
+  unfolding canonDominoes dominoesOf
+  canon-range A R B e = of-domino v (canon v) A R B e
+
+  -- a number in it is that of a domino in it
+  canon-domino : (n : ℕ) → n < dominoes v → T (canon v n)
+      → canonDominoes v (leftOf (v .parts) (v .roles) n) (rolesOf (v .parts) (v .roles) n) (rightOf (v .parts) n) ≡ true
+  unfolding canonDominoes dominoesOf unnumbered
+  canon-domino n h t = of-unnumbered v (canon v) n h ∙ is-true (canon v n) t
+
+  pub canon-most : (F : Set) → T (isStable (dominoes v) (defective v) F) → (n : ℕ) → n < dominoes v → T (F n) → T (canon v n)
+  unfolding canon
+  canon-most F r = canonical-largest (dominoes v) (initial v) (lacks v) (lacks-monotone v) F r
+
+  canon-definition-5 : (i : ℕ)
+      → Same (dominoes v) (steps (dominoes v) (defective v) (suc i) (initial v)) (steps (dominoes v) (defective v) i (initial v))
+      → Same (dominoes v) (steps (dominoes v) (defective v) i (initial v)) (canon v)
+  unfolding canon
+  canon-definition-5 i e = definition-5 (dominoes v) (defective v) (defective-monotone v) i (initial v) e
+
+-- a set whose size is not 0 has a member
+size-member : (n : ℕ) (D : Set) → (size n D ≡ 0 → ⊥) → (p : ℕ) × (p < n) × T (D p)
+unfolding size
+size-member zero D f = absurd (f refl)
+size-member (suc n) D f =
+    either (D n) (λ t. (n, le-refl (suc n), t))
+    (λ t. let r = size-member n D (λ e. f (rw (out (D n) t) (omega arith))) in (r .0, omega (arith, r .1), r .2))
+  where
+    out : (b : Bool) → T (not b) → b ≡ false
+    out true t = absurd t
+    out false t = refl
+
+module _ (v : View) where
+  -- the set has a member exactly if its size is not 0
+  some-left : (size (dominoes v) (canon v) ≡ 0 → ⊥) → Met (canonDominoes v)
+  some-left f =
+      let r = size-member (dominoes v) (canon v) f in
+      (leftOf (v .parts) (v .roles) (r .0), rolesOf (v .parts) (v .roles) (r .0), rightOf (v .parts) (r .0), canon-domino v (r .0) (r .1) (r .2))
+
+  none-left : size (dominoes v) (canon v) ≡ 0 → Met (canonDominoes v) → ⊥
+  none-left e m =
+      let d = canon-range v (m .0) (m .1) (m .2) (m .3) in
+      size-none (dominoes v) (canon v) e (number (v .parts) (v .roles) (m .0) (m .1) (m .2))
+      (number-lt (v .parts) (v .roles) (m .0) (m .1) (m .2) d) (of-true (canon-number v (m .0) (m .1) (m .2) d ∙ m .3))
+
+  -- ---- the canonical set strands nothing, so judging is never refused with 13
+
+  in-row : (A R B : ℕ) → number (v .parts) (v .roles) A 0 0 + (R * 2 ^ v .parts + B) ≡ number (v .parts) (v .roles) A R B
+  unfolding number
+  in-row A R B = omega arith
+
+  canon-starts : (n : ℕ) → n < dominoes v → T (canon v n) → T (begins v (canon v) (rightOf (v .parts) n))
+  unfolding begins
+  canon-starts n h t =
+      let c : ℕ = v .parts in
+      let L : ℕ = v .roles in
+      let A : ℕ = leftOf c L n in
+      let R : ℕ = inverse L (rolesOf c L n) in
+      let B : ℕ = rightOf c n in
+      let e : canonDominoes v B R A ≡ true = canon-sym v A (rolesOf c L n) B (canon-domino v n h t) in
+      let d = canon-range v B R A e in
+      some-by (2 ^ (2 * v .roles + v .parts)) (λ i. canon v (number (v .parts) (v .roles) B 0 0 + i)) (R * 2 ^ c + A) (run-lt c L B R A d)
+      (of-true (ap (canon v) (in-row B R A) ∙ canon-number v B R A d ∙ e))
+
+  pub never-stranded : strands v (canon v) ≡ false
+  unfolding strands
+  never-stranded =
+      let test : ℕ → Bool = λ n. canon v n && not (begins v (canon v) (rightOf (v .parts) n)) in
+      not-true (some (dominoes v) test) (λ e.
+      let w = some-at (dominoes v) test (of-true e) in
+      let n : ℕ = w .0 in
+      T-not (begins v (canon v) (rightOf (v .parts) n)) (and-right (canon v n) (not (begins v (canon v) (rightOf (v .parts) n))) (w .2))
+      (canon-starts n (w .1) (and-left (canon v n) (not (begins v (canon v) (rightOf (v .parts) n))) (w .2))))
+
+-- ---- what judge answers and leaves
+
+module _ (k : Kb) (ws : List ℕ) (t : T (areWords ws)) (h : held (kbView k) ≤ length ws) where
+  judged : Same (dominoes (kbView k)) (look (judgeLeaves (kb k) ws)) (canon (kbView k))
+  judged p l =
+      ap (λ (us : List ℕ). look us p) (judge-leaves k ws h)
+      ∙ written-look (held (kbView k)) (dominoes (kbView k)) (canon (kbView k)) ws (held-room (kbView k)) p l
+
+  -- the three values of an answer that is no refusal
+  values : (opening survivors met : ℕ) → judgeSays (kb k) ws ≡ 0 ∷ 0 ∷ opening ∷ survivors ∷ met ∷ []
+      → (opening ≡ size (dominoes (kbView k)) (initial (kbView k))) × (survivors ≡ size (dominoes (kbView k)) (canon (kbView k)))
+      × (met ≡ cond (eqb (size (dominoes (kbView k)) (canon (kbView k))) 0) 0 1)
+  values opening survivors met e =
+      let q = flip e ∙ judge-says k ws h (never-stranded (kbView k)) in
+      (ap (λ (l : List ℕ). getD l 2 0) q, ap (λ (l : List ℕ). getD l 3 0) q, ap (λ (l : List ℕ). getD l 4 0) q)
+
+  verdict-is : (met : ℕ) (b : Bool) → eqb (size (dominoes (kbView k)) (canon (kbView k))) 0 ≡ b → met ≡ cond b 0 1
+      → ((met ≡ 1) × Met (canonDominoes (kbView k))) ⊎ ((met ≡ 0) × (Met (canonDominoes (kbView k)) → ⊥))
+  verdict-is met true q e = inr (e, none-left (kbView k) (eqb-true (size (dominoes (kbView k)) (canon (kbView k))) 0 q))
+  verdict-is met false q e = inl (e, some-left (kbView k) (eqb-false (size (dominoes (kbView k)) (canon (kbView k))) 0 q))
+
+  judging-is : Demand2 (kb k) (kbView k) ws
+  judging-is =
+      let v : View = kbView k in
+      let same = judged in
+      record {
+        members = λ A R B d. same (number (v .parts) (v .roles) A R B) (number-lt (v .parts) (v .roles) A R B d) ∙ canon-number v A R B d;
+        spare = λ n l u.
+            ap (λ (us : List ℕ). look us n) (judge-leaves k ws h) ∙ written-spare (held v) (dominoes v) (canon v) ws n l u;
+        largest = canon-largest v;
+        stable = stable-words v (judgeLeaves (kb k) ws)
+            (stable-same (dominoes v) (defective v) (defective-monotone v) (canon v) (look (judgeLeaves (kb k) ws))
+            (λ p l. flip (same p l)) (canon-stable v));
+        most = λ vs r p l u. T-of (flip (same p l)) (canon-most v (look vs) (words-stable v vs r) p l u);
+        definition-5 = λ i e p l. same p l ∙ flip (canon-definition-5 v i e p l);
+        verdict = λ o n m e. verdict-is m (eqb (size (dominoes v) (canon v)) 0) refl (values o n m e .2);
+        counts = λ o n m e.
+            let w = values o n m e in (
+              w .0 ∙ flip (ap (λ (l : List ℕ). onesOf (take (held v) l)) (open-leaves k ws h)
+                  ∙ written-ones (held v) (dominoes v) (initial v) ws (held-room v) t h),
+              w .1 ∙ flip (ap (λ (l : List ℕ). onesOf (take (held v) l)) (judge-leaves k ws h)
+                  ∙ written-ones (held v) (dominoes v) (canon v) ws (held-room v) t h),
+            );
+      }
+
+pub demand-2 : (sheet : List ℕ) (k : Kb) → readKb limit sheet ≡ kb k → (ws : List ℕ) → T (areWords ws)
+    → held (kbView k) ≤ length ws → Demand2 (readKb limit sheet) (kbView k) ws
+demand-2 sheet k e ws t h = rw e (judging-is k ws t h)
+
+-- judge is not refused
+pub judge-answers : (sheet : List ℕ) (k : Kb) → readKb limit sheet ≡ kb k → (ws : List ℕ) → held (kbView k) ≤ length ws
+    → judgeSays (readKb limit sheet) ws
+    ≡ 0 ∷ 0 ∷ size (dominoes (kbView k)) (initial (kbView k)) ∷ size (dominoes (kbView k)) (canon (kbView k))
+    ∷ cond (eqb (size (dominoes (kbView k)) (canon (kbView k))) 0) 0 1 ∷ []
+judge-answers sheet k e ws h = rw e (judge-says k ws h (never-stranded (kbView k)))
+
+pub demand-2-models : (sheet : List ℕ) (k : Kb) → readKb limit sheet ≡ kb k → Demand2Models k
+demand-2-models sheet k e =
+    record {
+      inside = model-dominoes limit sheet k e;
+      met = λ I pos m. sheet-verdict limit sheet k e .1 (I, pos, m);
+    }

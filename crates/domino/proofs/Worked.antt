@@ -1,0 +1,135 @@
+-- The worked sheets are as the table has them: the answers of the definitions are those that compute, and these are the table's.
+-- Assumes nothing.
+use mathlib.Core.Path.{_≡_, refl, sym as flip, ap, ap₂, _∙_}
+use mathlib.Core.Bool.{Bool, true, false, cond}
+use mathlib.Core.List.{List, [], _∷_, _++_, map}
+use Prim.Native.Nat.{ℕ, _≤_}
+use native.Mathlib.Omega.{arith}
+use lib.Dec.{eqb}
+use lib.ListN.{length, drop}
+use borrow.Author.Tests.{ltb-false}
+use Rattle.bitset.specs.Bits.{look, word, wordAt, wordsFrom, cleared, size}
+use Rattle.bitset.proofs.Sizes.{size-same}
+use Rattle.elimination.specs.Sets.{every, some}
+use Rattle.elimination.specs.Elimination.{settled}
+use Rattle.elimination.specs.Calls.{written}
+use Rattle.elimination.specs.Tables.{settledWords}
+use Rattle.elimination.proofs.Settling.{settled-same}
+use Rattle.elimination.proofs.Tables.{settledWords-same, settledWords-is}
+use Rattle.tbox.specs.Shapes.{shapeOf, isLeaf, isRestriction}
+use Rattle.tbox.specs.Scan.{scanSheet, scan, recordFault, recordAfter, after, namesAfter, rolesAfter, bodyFault, numberFault, referenceFault, emptyFault, vacuousOf, name}
+use Rattle.tbox.specs.Concepts.{nodesOf, nodesFrom, nodeOf, axiomsOf, axiomOf}
+use Rattle.tbox.specs.Normal.{plain, negated, axiomNf}
+use Rattle.tbox.specs.Flatten.{flatten, run, walkPending, walk, meetOne, atom, restrictions, weight, weights, nameParts, pendings}
+use Rattle.tbox.specs.Truth.{eval, kbOn, roleOn}
+use Rattle.tbox.specs.Promise.{kindOf, roleHolds}
+use Rattle.tbox.specs.Reading.{Kb, Reading, refusal, kb, readKb, reading, admit}
+use Rattle.tbox.specs.Answers.{limit}
+use Rattle.semantics.specs.Dominoes.{number, leftOf, rolesOf, rightOf, inverse, numbered}
+use Rattle.semantics.specs.Conditions.{View, kb as good, ex, uni, witness, delex, deluni, sym, defect, initially, sustained, dominoes, initial, lacks, defective, defectAt, canon}
+use Rattle.semantics.specs.Views.{fillerIn, hasFiller, kbView}
+use Rattle.semantics.proofs.Defects.{defective-monotone}
+use Rattle.domino.specs.Answers.{held, isShort, verdictNumber, verdictOf, openSays, openLeaves, strikeSays, strikeLeaves, settleSays, judgeSays, judgeLeaves}
+use Rattle.domino.specs.Examples.{Row, row, answered, table, struck, strikes, needs}
+use Rattle.domino.proofs.Saying.{held-room, written-long, written-look, open-says, open-leaves, settle-says, judge-says, judge-leaves}
+use Rattle.domino.proofs.Demand2.{never-stranded}
+
+-- ---- what computes
+
+-- the words of the canonical set
+abbrev canonWords : View → List ℕ
+canonWords v = settledWords (held v) (dominoes v) (defective v) (initial v)
+
+-- the row of a view, for enough words
+abbrev viewRow : View → List ℕ → List ℕ → Row
+viewRow v s l =
+    let us = canonWords v in
+    let o = size (dominoes v) (initial v) in
+    let n = size (dominoes v) (look us) in
+    row s l (0 ∷ 0 ∷ o ∷ []) (written (held v) (dominoes v) (initial v) l) (0 ∷ 0 ∷ n ∷ [])
+    (0 ∷ 0 ∷ o ∷ n ∷ cond (eqb n 0) 0 1 ∷ []) (us ++ drop (held v) l)
+
+abbrev refusedRow : ℕ → ℕ → List ℕ → List ℕ → Row
+refusedRow n p s l = row s l (n ∷ p ∷ []) l (n ∷ p ∷ []) (n ∷ p ∷ []) l
+
+abbrev readRow : Reading → List ℕ → List ℕ → Row
+readRow (refusal n p) s l = refusedRow n p s l
+readRow (kb k) s l = elim (isShort k l) [ true ↦ refusedRow 10 0 s l | false ↦ viewRow (kbView k) s l ]
+
+abbrev computed : Row → Row
+computed r = readRow (readKb limit (r .sheet)) (r .sheet) (r .lent)
+
+both-computed : (map computed table ≡ table) × (map struck strikes ≡ strikes)
+unfolding strikeSays strikeLeaves openLeaves verdictOf verdictNumber cleared readKb reading admit flatten run walkPending walk meetOne atom restrictions weight weights nameParts pendings plain negated axiomNf nodesOf nodesFrom nodeOf axiomsOf axiomOf scanSheet scan recordFault recordAfter after namesAfter rolesAfter bodyFault numberFault referenceFault emptyFault vacuousOf name shapeOf isLeaf isRestriction eval kbOn roleOn kindOf roleHolds number leftOf rolesOf rightOf inverse numbered good ex uni witness delex deluni sym defect initially sustained initial lacks defectAt fillerIn hasFiller word wordAt wordsFrom size every some
+both-computed = (refl, refl)
+
+-- ---- the definitions' answers are those
+
+module _ (k : Kb) (l : List ℕ) where
+  short-row : (t : List ℕ) → isShort k l ≡ true
+      → row t l (openSays (kb k) l) (openLeaves (kb k) l) (settleSays (kb k) (openLeaves (kb k) l)) (judgeSays (kb k) l) (judgeLeaves (kb k) l)
+      ≡ refusedRow 10 0 t l
+  unfolding openSays openLeaves settleSays judgeSays judgeLeaves
+  short-row t q = rw (q, q)
+
+  module _ (h : held (kbView k) ≤ length l) where
+    canon-words : canonWords (kbView k) ++ drop (held (kbView k)) l ≡ judgeLeaves (kb k) l
+    unfolding canon
+    canon-words =
+        let v : View = kbView k in
+        ap (λ (us : List ℕ). us ++ drop (held v) l)
+        (settledWords-is (held v) (dominoes v) (defective v) (held-room v) (defective-monotone v) (initial v))
+        ∙ flip (judge-leaves k l h)
+
+    canon-size : size (dominoes (kbView k)) (canon (kbView k)) ≡ size (dominoes (kbView k)) (look (canonWords (kbView k)))
+    unfolding canon
+    canon-size =
+        let v : View = kbView k in
+        flip (size-same (dominoes v) (look (canonWords v)) (canon v)
+        (settledWords-same (held v) (dominoes v) (defective v) (held-room v) (defective-monotone v) (initial v)))
+
+    opened-size : settleSays (kb k) (openLeaves (kb k) l) ≡ 0 ∷ 0 ∷ size (dominoes (kbView k)) (canon (kbView k)) ∷ []
+    unfolding canon
+    opened-size =
+        let v : View = kbView k in
+        let us : List ℕ = written (held v) (dominoes v) (initial v) l in
+        ap (settleSays (kb k)) (open-leaves k l h)
+        ∙ settle-says k us (omega (arith, written-long (held v) (dominoes v) (initial v) l h))
+        ∙ ap (λ (n : ℕ). 0 ∷ 0 ∷ n ∷ [])
+        (size-same (dominoes v) (settled (dominoes v) (defective v) (look us)) (canon v)
+        (settled-same (dominoes v) (defective v) (defective-monotone v) (look us) (initial v)
+        (written-look (held v) (dominoes v) (initial v) l (held-room v))))
+
+    view-row : (t : List ℕ)
+        → row t l (openSays (kb k) l) (openLeaves (kb k) l) (settleSays (kb k) (openLeaves (kb k) l)) (judgeSays (kb k) l) (judgeLeaves (kb k) l)
+        ≡ viewRow (kbView k) t l
+    view-row t =
+        rw (opened-size, open-leaves k l h, open-says k l h, judge-says k l h (never-stranded (kbView k)), canon-size, ← canon-words)
+
+same-row : (s : Reading) (t l : List ℕ)
+    → row t l (openSays s l) (openLeaves s l) (settleSays s (openLeaves s l)) (judgeSays s l) (judgeLeaves s l) ≡ readRow s t l
+same-row (refusal n p) t l = unfold openSays openLeaves settleSays judgeSays judgeLeaves in refl
+same-row (kb k) t l = go (isShort k l) refl
+  where
+    go : (b : Bool) → isShort k l ≡ b
+        → row t l (openSays (kb k) l) (openLeaves (kb k) l) (settleSays (kb k) (openLeaves (kb k) l)) (judgeSays (kb k) l) (judgeLeaves (kb k) l)
+        ≡ elim b [ true ↦ refusedRow 10 0 t l | false ↦ viewRow (kbView k) t l ]
+    go true q = short-row k l t q
+    go false q = view-row k l (ltb-false (length l) (held (kbView k)) q) t
+
+map-same : (f g : Row → Row) → ((r : Row) → f r ≡ g r) → (rs : List Row) → map f rs ≡ map g rs
+map-same f g e [] = refl
+map-same f g e (r ∷ rs) = ap₂ (λ (x : Row) (xs : List Row). x ∷ xs) (e r) (map-same f g e rs)
+
+-- every row of the table is as the definitions have it
+pub rows-right : map answered table ≡ table
+rows-right =
+    map-same answered computed (λ r. same-row (readKb limit (r .sheet)) (r .sheet) (r .lent)) table ∙ both-computed .0
+
+-- and every strike
+pub strikes-right : map struck strikes ≡ strikes
+strikes-right = both-computed .1
+
+-- "c + L of 3 needs 1 word, of 9 needs 4,096 .., of 12 needs 262,144"
+pub needs-right : (needs 2 1 ≡ 1) × (needs 9 0 ≡ 4096) × (needs 12 0 ≡ 262144)
+needs-right = (refl, refl, refl)

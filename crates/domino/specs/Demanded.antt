@@ -1,0 +1,133 @@
+-- What the request's demands 1 to 3 say of the answers and of the words left. Proved in proofs/Demand1.antt, Demand2.antt and
+-- Demand3.antt. Assumes nothing: these are definitions.
+use Prim.Native.Nat.{ℕ, suc, _*_, _≤_, _<_}
+use mathlib.Core.Path.{_≡_}
+use mathlib.Core.Logic.{_⊎_}
+use mathlib.Core.Bool.{true, false, _&&_}
+use mathlib.Core.List.{List, [], _∷_}
+use lib.Dec.{eqb}
+use lib.ListN.{length, getD, take, drop}
+use Rattle.bitset.specs.Bits.{look, onesOf}
+use Rattle.elimination.specs.Sets.{Sub, Same}
+use Rattle.elimination.specs.Elimination.{steps, Largest}
+use Rattle.elimination.specs.Calls.{Call, strike, settle, runWith, Passes}
+use Rattle.tbox.specs.Reading.{Kb, Reading, refusal, kb, readKb}
+use Rattle.tbox.specs.Answers.{limit}
+use Rattle.semantics.specs.Interpretations.{Interpretation, models}
+use Rattle.semantics.specs.Dominoes.{Met, Domino, number}
+use Rattle.semantics.specs.Conditions.{View, LargestStable, dominoes, initial, defective, defectAt, canon, canonDominoes}
+use Rattle.semantics.specs.Views.{kbView}
+use Rattle.semantics.specs.Projection.{projection}
+use Rattle.domino.specs.Answers.{held, strands, openSays, openLeaves, strikeSays, strikeLeaves, settleSays, settleLeaves, judgeSays, judgeLeaves}
+
+-- ---- demand 1: "the call comes back with the refusal number and place that document 01 fixes, and every set and list is
+-- untouched, unless a later request says outright what that refusal leaves. Where the input is sound the call does its work."
+
+-- of an answer: the number of the refusal, 0 for none, and its place
+abbrev pub refusalOf : List ℕ → ℕ
+refusalOf says = getD says 0 0
+
+abbrev pub placeOf : List ℕ → ℕ
+placeOf says = getD says 1 0
+
+-- what a call keeps to that says `says` and leaves `after` of the words `before`
+pub record Refuses (sheet before says after : List ℕ) : Type 0 where
+  -- "refuses as read does": with its number, 1 to 9, and its place
+  pub read : (n p : ℕ) → readKb limit sheet ≡ refusal n p → (says ≡ n ∷ p ∷ []) × (1 ≤ n) × (n ≤ 9)
+  -- "then 10, set too short"
+  pub short : (k : Kb) → readKb limit sheet ≡ kb k → length before < held (kbView k) → says ≡ 10 ∷ 0 ∷ []
+  -- "The place is the byte where the offending record starts for 1 to 8, and 0 otherwise."
+  pub inside : 1 ≤ refusalOf says → refusalOf says ≤ 8 → placeOf says < length sheet
+  pub nowhere : 9 ≤ refusalOf says → placeOf says ≡ 0
+  -- "A refusal writes nothing to any buffer, save 13"
+  pub untouched : (refusalOf says ≡ 0 → ⊥) → (refusalOf says ≡ 13 → ⊥) → after ≡ before
+  -- "Further words are never touched."
+  pub long : length after ≡ length before
+  pub past : (k : Kb) → readKb limit sheet ≡ kb k → drop (held (kbView k)) after ≡ drop (held (kbView k)) before
+
+-- for words ws, and a number n to strike
+pub record Demand1 (sheet ws : List ℕ) (n : ℕ) : Type 0 where
+  pub opening : Refuses sheet ws (openSays (readKb limit sheet) ws) (openLeaves (readKb limit sheet) ws)
+  pub striking : Refuses sheet ws (strikeSays (readKb limit sheet) n ws) (strikeLeaves (readKb limit sheet) n ws)
+  pub settling : Refuses sheet ws (settleSays (readKb limit sheet) ws) (settleLeaves (readKb limit sheet) ws)
+  pub judging : Refuses sheet ws (judgeSays (readKb limit sheet) ws) (judgeLeaves (readKb limit sheet) ws)
+
+-- ---- for a sheet that is read as s, its view v, and words ws that are enough
+
+-- open and settle are not refused, strike with 11 alone, judge with 13 alone
+pub record Demand1Done (s : Reading) (v : View) (ws : List ℕ) (n : ℕ) : Type 0 where
+  pub opens : refusalOf (openSays s ws) ≡ 0
+  pub strikes : n < dominoes v → refusalOf (strikeSays s n ws) ≡ 0
+  -- "then 11, number not below 2^(2c+2L)"
+  pub beyond : dominoes v ≤ n → strikeSays s n ws ≡ 11 ∷ 0 ∷ []
+  pub settles : refusalOf (settleSays s ws) ≡ 0
+  pub judges : strands v (canon v) ≡ false → refusalOf (judgeSays s ws) ≡ 0
+  -- "13, a survivor whose right mark set begins no survivor", "which leaves the set settled"
+  pub stranded : strands v (canon v) ≡ true → judgeSays s ws ≡ 13 ∷ 0 ∷ []
+  pub settled : judgeLeaves s ws ≡ settleLeaves s (openLeaves s ws)
+
+-- no domino in the words is defective in their set. 01: "A set is at rest if no pairing in it is loose in it."
+unfoldable pub StableWords : View → List ℕ → Type 0
+StableWords v ws = (n : ℕ) → n < dominoes v → look ws n ≡ true → defectAt v (look ws) n ≡ 0
+
+pub record Demand2 (s : Reading) (v : View) (ws : List ℕ) : Type 0 where
+  -- "Judging a sheet leaves the largest set of pairings in which none is loose": the words hold the canonical set alone,
+  pub members : (A R B : ℕ) → Domino (v .parts) (v .roles) A R B
+      → look (judgeLeaves s ws) (number (v .parts) (v .roles) A R B) ≡ canonDominoes v A R B
+  pub spare : (n : ℕ) → dominoes v ≤ n → n < 64 * held v → look (judgeLeaves s ws) n ≡ false
+  -- which is stable, and of which every stable set is a part; as dominoes, and as words
+  pub largest : LargestStable v (canonDominoes v)
+  pub stable : StableWords v (judgeLeaves s ws)
+  pub most : (vs : List ℕ) → StableWords v vs → Sub (dominoes v) (look vs) (look (judgeLeaves s ws))
+  -- "as Definition 5 .. sets it out": of its steps, what the next one does not change
+  pub definition-5 : (i : ℕ)
+      → Same (dominoes v) (steps (dominoes v) (defective v) (suc i) (initial v)) (steps (dominoes v) (defective v) i (initial v))
+      → Same (dominoes v) (look (judgeLeaves s ws)) (steps (dominoes v) (defective v) i (initial v))
+  -- "and says "can be met" when that set holds a pairing and "cannot be met" when it is empty"
+  pub verdict : (opening survivors met : ℕ) → judgeSays s ws ≡ 0 ∷ 0 ∷ opening ∷ survivors ∷ met ∷ []
+      → ((met ≡ 1) × Met (canonDominoes v)) ⊎ ((met ≡ 0) × (Met (canonDominoes v) → ⊥))
+  -- the sizes are the ones in the words used: "the count is tied to the set left"
+  pub counts : (opening survivors met : ℕ) → judgeSays s ws ≡ 0 ∷ 0 ∷ opening ∷ survivors ∷ met ∷ []
+      → (opening ≡ onesOf (take (held v) (openLeaves s ws))) × (survivors ≡ onesOf (take (held v) (judgeLeaves s ws)))
+
+-- "Every finite plant of at least one item that keeps the sheet has all its pairings in that set."
+pub record Demand2Models (k : Kb) : Type 0 where
+  pub inside : (I : Interpretation) → models I (k .axioms) ≡ true
+      → (A R B : ℕ) → projection I k A R B ≡ true → canonDominoes (kbView k) A R B ≡ true
+  pub met : (I : Interpretation) → 0 < I .individuals → models I (k .axioms) ≡ true → Met (canonDominoes (kbView k))
+
+-- demand 3: single calls
+pub record Demand3Calls (s : Reading) (v : View) (ws : List ℕ) : Type 0 where
+  -- "An opened set holds exactly the pairings that do not break the sheet themselves."
+  pub opened : Same (dominoes v) (look (openLeaves s ws)) (initial v)
+  -- "A strike removes the pairing it names precisely if it is there and loose, and no other"
+  pub struck : (n : ℕ) → n < dominoes v → look (strikeLeaves s n ws) n ≡ (look ws n && eqb (defectAt v (look ws) n) 0)
+  pub others : (n p : ℕ) → (p ≡ n → ⊥) → look (strikeLeaves s n ws) p ≡ look ws p
+  pub refused : (n : ℕ) → dominoes v ≤ n → strikeLeaves s n ws ≡ ws
+  -- "settling strikes until none is loose": what it leaves is the largest stable subset, and its answer the ones in the words used
+  pub stable : StableWords v (settleLeaves s ws)
+  pub largest : Largest (dominoes v) (defective v) (look ws) (look (settleLeaves s ws))
+  pub spare : (n : ℕ) → dominoes v ≤ n → n < 64 * held v → look (settleLeaves s ws) n ≡ false
+  pub count : settleSays s ws ≡ 0 ∷ 0 ∷ onesOf (take (held v) (settleLeaves s ws)) ∷ []
+
+-- what one call does to the words: "a strike refused with 11 counts as a call"
+abbrev pub called : Reading → Call → List ℕ → List ℕ
+called s (strike n) ws = strikeLeaves s n ws
+called s settle ws = settleLeaves s ws
+
+-- the words after a list of calls: "It runs from a set just opened, with one sheet throughout, each call getting the set as the
+-- last one left it and nobody else writing it meanwhile."
+abbrev pub callsLeave : Reading → List Call → List ℕ → List ℕ
+callsLeave s cs ws = runWith (called s) cs (openLeaves s ws)
+
+-- demand 3: a list of calls
+pub record Demand3 (s : Reading) (v : View) (cs : List Call) (ws : List ℕ) : Type 0 where
+  -- "Words beyond these are as they were before open, at rest or not."
+  pub past : drop (held v) (callsLeave s cs ws) ≡ drop (held v) ws
+  -- "After every such list, every pairing that judging the sheet keeps is still in the set"
+  pub keeps : Sub (dominoes v) (look (judgeLeaves s ws)) (look (callsLeave s cs ws))
+  -- "If it is at rest after the list, the words needed are, word for word, those that judge leaves for the sheet."
+  pub exact : StableWords v (callsLeave s cs ws) → take (held v) (callsLeave s cs ws) ≡ take (held v) (judgeLeaves s ws)
+  -- "The rounds needed are as many as the opening size that open answered; for 0, none."
+  pub ends : (opening passes : ℕ) → openSays s ws ≡ 0 ∷ 0 ∷ opening ∷ [] → opening ≤ passes → Passes (dominoes v) passes cs
+      → StableWords v (callsLeave s cs ws)

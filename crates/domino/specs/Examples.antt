@@ -1,0 +1,107 @@
+-- Worked sheets (01, "Sheets to try"): what open, settle and judge answer for each and leave in the words, and strikes. Proved in
+-- proofs/Worked.antt. Assumes nothing: these are definitions.
+use Prim.Native.Nat.{ℕ}
+use mathlib.Core.List.{List, [], _∷_, _++_}
+use Rattle.tbox.specs.Reading.{readKb}
+use Rattle.tbox.specs.Answers.{limit}
+use Rattle.semantics.specs.Dominoes.{total, wordsFor}
+use Rattle.domino.specs.Answers.{openSays, openLeaves, strikeSays, strikeLeaves, settleSays, judgeSays, judgeLeaves}
+
+-- a sheet and words lent; what open says and leaves; what settle says then; what judge says and leaves
+pub record Row : Type 0 where
+  pub sheet : List ℕ
+  pub lent : List ℕ
+  pub opens : List ℕ
+  pub opened : List ℕ
+  pub settles : List ℕ
+  pub judges : List ℕ
+  pub judged : List ℕ
+
+abbrev pub row : List ℕ → List ℕ → List ℕ → List ℕ → List ℕ → List ℕ → List ℕ → Row
+row s l o p t j q = record { sheet = s; lent = l; opens = o; opened = p; settles = t; judges = j; judged = q }
+
+-- the row, as the definitions have it
+abbrev pub answered : Row → Row
+answered r =
+    let s = readKb limit (r .sheet) in
+    row (r .sheet) (r .lent) (openSays s (r .lent)) (openLeaves s (r .lent)) (settleSays s (openLeaves s (r .lent)))
+    (judgeSays s (r .lent)) (judgeLeaves s (r .lent))
+
+abbrev s1 : List ℕ
+s1 = 0x01 ∷ 0x10 ∷ 0x00 ∷ 0x03 ∷ 0x00 ∷ 0x07 ∷ 0x01 ∷ 0x02 ∷ 0x20 ∷ 0x00 ∷ 0x03 ∷ []
+
+abbrev s2 : List ℕ
+s2 = s1 ++ (0x02 ∷ 0x20 ∷ 0x02 ∷ 0x05 ∷ [])
+
+abbrev s3 : List ℕ
+s3 = s1 ++ (0x11 ∷ 0x00 ∷ 0x02 ∷ 0x08 ∷ 0x05 ∷ 0x06 ∷ 0x20 ∷ 0x02 ∷ 0x07 ∷ [])
+
+abbrev s4 : List ℕ
+s4 = 0x10 ∷ 0x00 ∷ 0x01 ∷ 0x08 ∷ 0x00 ∷ 0x01 ∷ 0x02 ∷ 0x20 ∷ 0x02 ∷ 0x03 ∷ []
+
+abbrev s5 : List ℕ
+s5 = 0x01 ∷ 0x03 ∷ 0x00 ∷ 0x10 ∷ 0x00 ∷ 0x08 ∷ 0x02 ∷ 0x00 ∷ 0x06 ∷ 0x01 ∷ 0x03 ∷ 0x20 ∷ 0x00 ∷ 0x04 ∷ []
+
+abbrev s6 : List ℕ
+s6 = 0x03 ∷ 0x00 ∷ 0x10 ∷ 0x00 ∷ 0x04 ∷ 0x00 ∷ 0x07 ∷ 0x01 ∷ 0x02 ∷ 0x20 ∷ 0x00 ∷ 0x03 ∷ []
+
+-- what is lent: a full word, and a word that no call may touch; four full words and one more
+abbrev one : List ℕ
+one = 0xffffffffffffffff ∷ 5 ∷ []
+
+abbrev four : List ℕ
+four = 0xffffffffffffffff ∷ 0xffffffffffffffff ∷ 0xffffffffffffffff ∷ 0xffffffffffffffff ∷ 5 ∷ []
+
+-- the opening size, the survivors, and whether it is met; the words before the last, opened and judged
+abbrev works : List ℕ → List ℕ → ℕ → ℕ → ℕ → List ℕ → List ℕ → Row
+works s l o n m p q = row s l (0 ∷ 0 ∷ o ∷ []) (p ++ (5 ∷ [])) (0 ∷ 0 ∷ n ∷ []) (0 ∷ 0 ∷ o ∷ n ∷ m ∷ []) (q ++ (5 ∷ []))
+
+-- every call is refused with this number and place
+abbrev refused : List ℕ → List ℕ → ℕ → ℕ → Row
+refused s l n p = row s l (n ∷ p ∷ []) l (n ∷ p ∷ []) (n ∷ p ∷ []) l
+
+abbrev pub table : List Row
+table =
+    works [] one 1 1 1 (1 ∷ []) (1 ∷ []) ∷
+    refused [] [] 10 0 ∷
+    works s1 one 32 16 1 (0xffffffff00000000 ∷ []) (0xcccccccc00000000 ∷ []) ∷
+    refused s1 [] 10 0 ∷
+    works s2 one 16 0 0 (0xffff00000000 ∷ []) (0 ∷ []) ∷
+    works s3 four 64 0 0 (0 ∷ 0xffffffff ∷ 0 ∷ 0xffff0000ffff ∷ []) (0 ∷ 0 ∷ 0 ∷ 0 ∷ []) ∷
+    refused s3 one 10 0 ∷
+    works s4 one 8 0 0 (0xff00 ∷ []) (0 ∷ []) ∷
+    works s5 one 48 16 1 (0xffffffffffff0000 ∷ []) (0xcccccccc00000000 ∷ []) ∷
+    works s6 four 144 85 1 (0xfff0fff ∷ 0xffffffffffffffff ∷ 0xfff0fff ∷ 0xffffffff ∷ [])
+    (0xd5d0d5d ∷ 0x5d5d5d5d5d5d5d5d ∷ 0xc4c0d5d ∷ 0x4c4c5d5d ∷ []) ∷
+    works (0x03 ∷ 0x00 ∷ []) one 4 4 1 (0xf ∷ []) (0xf ∷ []) ∷
+    refused (0x03 ∷ 0x0b ∷ []) one 10 0 ∷
+    refused (0x03 ∷ 0x0c ∷ []) one 4 0 ∷
+    refused (0x03 ∷ 0x0b ∷ 0x10 ∷ 0x00 ∷ []) one 9 0 ∷
+    refused (0x04 ∷ 0x00 ∷ []) one 5 0 ∷
+    refused (0x03 ∷ 0x00 ∷ 0x04 ∷ 0x00 ∷ 0x05 ∷ 0x01 ∷ 0x01 ∷ []) one 7 4 ∷
+    refused (0x10 ∷ 0x00 ∷ 0x12 ∷ 0x00 ∷ 0x01 ∷ 0x07 ∷ 0x01 ∷ 0x02 ∷ []) one 8 5 ∷
+    []
+
+-- "Strikes on S1 opened: 32 Struck; 2 Absent; 34 Kept; 64 refused 11.": a number, what strike says, and what it leaves
+pub record Strike : Type 0 where
+  pub number : ℕ
+  pub says : List ℕ
+  pub leaves : List ℕ
+
+abbrev pub struck : Strike → Strike
+struck r =
+    let s = readKb limit s1 in
+    let ws = openLeaves s one in
+    record { number = r .number; says = strikeSays s (r .number) ws; leaves = strikeLeaves s (r .number) ws }
+
+abbrev pub strikes : List Strike
+strikes =
+    record { number = 32; says = 0 ∷ 0 ∷ 32 ∷ 1 ∷ []; leaves = 0xfffffffe00000000 ∷ 5 ∷ [] } ∷
+    record { number = 2; says = 0 ∷ 0 ∷ 2 ∷ 0 ∷ []; leaves = 0xffffffff00000000 ∷ 5 ∷ [] } ∷
+    record { number = 34; says = 0 ∷ 0 ∷ 34 ∷ 2 ∷ []; leaves = 0xffffffff00000000 ∷ 5 ∷ [] } ∷
+    record { number = 64; says = 11 ∷ 0 ∷ []; leaves = 0xffffffff00000000 ∷ 5 ∷ [] } ∷
+    []
+
+-- "c + L of 3 needs 1 word, of 9 needs 4,096 .., of 12 needs 262,144"
+abbrev pub needs : ℕ → ℕ → ℕ
+needs c l = wordsFor (total c l)

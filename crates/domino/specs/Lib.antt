@@ -1,0 +1,7 @@
+pub mod Tables
+pub mod Polarity
+pub mod Sweeps
+pub mod Demands
+pub mod Answers
+pub mod Demanded
+pub mod Examples
