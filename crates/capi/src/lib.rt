@@ -1,13 +1,20 @@
-// The functions for C and Rust: numbers and slices only, each a thin call.
+// The functions for C and Rust: numbers and slices only, each a thin call. Each answers the refusal's number, 0 for done; a
+// refusal writes its place, a call that is done its values.
 ghost use mathlib.Core.Path.{_≡_};
-ghost use mathlib.Core.List.{[], _∷_};
 ghost use Rattle.tbox.specs.Reading.{readKb};
-ghost use Rattle.tbox.specs.Answers.{limit};
-ghost use Rattle.capi.specs.Out.{readOut, ListsOut};
+ghost use Rattle.tbox.specs.Answers.{limit, readSays, listSays, listLeaves};
+ghost use Rattle.domino.specs.Answers.{openSays, strikeSays, settleSays, judgeSays, verdictNumber};
+ghost use Rattle.domino.specs.Answers.{openLeaves, strikeLeaves, settleLeaves, judgeLeaves};
+ghost use Rattle.capi.specs.Out.{resultOut, placeOut, valueOut};
+use domino::JudgeAnswer;
+use domino::OpenAnswer;
+use domino::SettleAnswer;
+use domino::StrikeAnswer;
+use domino::Verdict;
 use tbox::ListAnswer;
 use tbox::ReadAnswer;
 
-// Read: answers the refusal's number, 0 for done. A refusal writes its place; when done T, L and c are written.
+// Read: T, L and c.
 #[no_mangle]
 pub extern "C" fn lodhrussi_read(
     sheet: &[u8],
@@ -16,7 +23,11 @@ pub extern "C" fn lodhrussi_read(
     links: &mut u64,
     marks: &mut u64,
 ) -> u64
-    ensures { λ r. ⌜ r ∷ now (place .exit) ∷ now (traits .exit) ∷ now (links .exit) ∷ now (marks .exit) ∷ [] ≡ readOut (readKb limit (now (sheet .entry))) (now (place .entry)) (now (traits .entry)) (now (links .entry)) (now (marks .entry)) ⌝ }
+    ensures { λ r. ⌜ r ≡ resultOut (readSays (readKb limit (now (sheet .entry)))) ⌝ }
+    ensures { λ _. ⌜ now (place .exit) ≡ placeOut (readSays (readKb limit (now (sheet .entry)))) (now (place .entry)) ⌝ }
+    ensures { λ _. ⌜ now (traits .exit) ≡ valueOut 0 (readSays (readKb limit (now (sheet .entry)))) (now (traits .entry)) ⌝ }
+    ensures { λ _. ⌜ now (links .exit) ≡ valueOut 1 (readSays (readKb limit (now (sheet .entry)))) (now (links .entry)) ⌝ }
+    ensures { λ _. ⌜ now (marks .exit) ≡ valueOut 2 (readSays (readKb limit (now (sheet .entry)))) (now (marks .entry)) ⌝ }
 {
     let a = tbox::read(sheet);
     match a {
@@ -33,10 +44,12 @@ pub extern "C" fn lodhrussi_read(
     }
 }
 
-// List marks: answers the refusal's number, 0 for done. A refusal writes its place and leaves the list as it was.
+// List marks: three bytes a part into the list.
 #[no_mangle]
 pub extern "C" fn lodhrussi_list_marks(sheet: &[u8], list: &mut [u8], place: &mut u64) -> u64
-    ensures { λ r. ⌜ ListsOut (readKb limit (now (sheet .entry))) (now (list .entry)) (now (list .exit)) (now (place .entry)) (now (place .exit)) r ⌝ }
+    ensures { λ r. ⌜ r ≡ resultOut (listSays (readKb limit (now (sheet .entry))) (now (list .entry))) ⌝ }
+    ensures { λ _. ⌜ now (place .exit) ≡ placeOut (listSays (readKb limit (now (sheet .entry))) (now (list .entry))) (now (place .entry)) ⌝ }
+    ensures { λ _. ⌜ now (list .exit) ≡ listLeaves (readKb limit (now (sheet .entry))) (now (list .entry)) ⌝ }
 {
     let a = tbox::list_marks(sheet, list);
     match a {
@@ -45,5 +58,127 @@ pub extern "C" fn lodhrussi_list_marks(sheet: &[u8], list: &mut [u8], place: &mu
             n as u64
         }
         ListAnswer::Listed(_) => 0,
+    }
+}
+
+// Open: the initial set into the words; its size.
+#[no_mangle]
+pub extern "C" fn lodhrussi_open(
+    sheet: &[u8],
+    set: &mut [u64],
+    place: &mut u64,
+    size: &mut u64,
+) -> u64
+    ensures { λ r. ⌜ r ≡ resultOut (openSays (readKb limit (now (sheet .entry))) (now (set .entry))) ⌝ }
+    ensures { λ _. ⌜ now (place .exit) ≡ placeOut (openSays (readKb limit (now (sheet .entry))) (now (set .entry))) (now (place .entry)) ⌝ }
+    ensures { λ _. ⌜ now (size .exit) ≡ valueOut 0 (openSays (readKb limit (now (sheet .entry))) (now (set .entry))) (now (size .entry)) ⌝ }
+    ensures { λ _. ⌜ now (set .exit) ≡ openLeaves (readKb limit (now (sheet .entry))) (now (set .entry)) ⌝ }
+{
+    let a = domino::open(sheet, set);
+    match a {
+        OpenAnswer::Refused(n, p) => {
+            *place = p as u64;
+            n as u64
+        }
+        OpenAnswer::Opened(s) => {
+            *size = s;
+            0
+        }
+    }
+}
+
+fn verdict_number(v: Verdict) -> u64
+    ensures { λ r. ⌜ r ≡ verdictNumber v ⌝ }
+{
+    match v {
+        Verdict::Absent => 0,
+        Verdict::Struck => 1,
+        Verdict::Kept => 2,
+    }
+}
+
+// Strike: the verdict on one domino, 0 Absent, 1 Struck, 2 Kept.
+#[no_mangle]
+pub extern "C" fn lodhrussi_strike(
+    sheet: &[u8],
+    set: &mut [u64],
+    number: u64,
+    place: &mut u64,
+    verdict: &mut u64,
+) -> u64
+    ensures { λ r. ⌜ r ≡ resultOut (strikeSays (readKb limit (now (sheet .entry))) number (now (set .entry))) ⌝ }
+    ensures { λ _. ⌜ now (place .exit) ≡ placeOut (strikeSays (readKb limit (now (sheet .entry))) number (now (set .entry))) (now (place .entry)) ⌝ }
+    ensures { λ _. ⌜ now (verdict .exit) ≡ valueOut 1 (strikeSays (readKb limit (now (sheet .entry))) number (now (set .entry))) (now (verdict .entry)) ⌝ }
+    ensures { λ _. ⌜ now (set .exit) ≡ strikeLeaves (readKb limit (now (sheet .entry))) number (now (set .entry)) ⌝ }
+{
+    let a = domino::strike(sheet, set, number as usize);
+    match a {
+        StrikeAnswer::Refused(n, p) => {
+            *place = p as u64;
+            n as u64
+        }
+        StrikeAnswer::Tried(o) => {
+            let v = o.verdict;
+            *verdict = verdict_number(v);
+            0
+        }
+    }
+}
+
+// Settle: leaves the largest stable subset; how many are left.
+#[no_mangle]
+pub extern "C" fn lodhrussi_settle(
+    sheet: &[u8],
+    set: &mut [u64],
+    place: &mut u64,
+    survivors: &mut u64,
+) -> u64
+    ensures { λ r. ⌜ r ≡ resultOut (settleSays (readKb limit (now (sheet .entry))) (now (set .entry))) ⌝ }
+    ensures { λ _. ⌜ now (place .exit) ≡ placeOut (settleSays (readKb limit (now (sheet .entry))) (now (set .entry))) (now (place .entry)) ⌝ }
+    ensures { λ _. ⌜ now (survivors .exit) ≡ valueOut 0 (settleSays (readKb limit (now (sheet .entry))) (now (set .entry))) (now (survivors .entry)) ⌝ }
+    ensures { λ _. ⌜ now (set .exit) ≡ settleLeaves (readKb limit (now (sheet .entry))) (now (set .entry)) ⌝ }
+{
+    let a = domino::settle(sheet, set);
+    match a {
+        SettleAnswer::Refused(n, p) => {
+            *place = p as u64;
+            n as u64
+        }
+        SettleAnswer::Settled(left) => {
+            *survivors = left;
+            0
+        }
+    }
+}
+
+// Judge: leaves the canonical set; the sizes of the initial and the canonical set, and 1 or 0 for met or unmet.
+#[no_mangle]
+pub extern "C" fn lodhrussi_judge(
+    sheet: &[u8],
+    set: &mut [u64],
+    place: &mut u64,
+    opening: &mut u64,
+    survivors: &mut u64,
+    met: &mut u64,
+) -> u64
+    ensures { λ r. ⌜ r ≡ resultOut (judgeSays (readKb limit (now (sheet .entry))) (now (set .entry))) ⌝ }
+    ensures { λ _. ⌜ now (place .exit) ≡ placeOut (judgeSays (readKb limit (now (sheet .entry))) (now (set .entry))) (now (place .entry)) ⌝ }
+    ensures { λ _. ⌜ now (opening .exit) ≡ valueOut 0 (judgeSays (readKb limit (now (sheet .entry))) (now (set .entry))) (now (opening .entry)) ⌝ }
+    ensures { λ _. ⌜ now (survivors .exit) ≡ valueOut 1 (judgeSays (readKb limit (now (sheet .entry))) (now (set .entry))) (now (survivors .entry)) ⌝ }
+    ensures { λ _. ⌜ now (met .exit) ≡ valueOut 2 (judgeSays (readKb limit (now (sheet .entry))) (now (set .entry))) (now (met .entry)) ⌝ }
+    ensures { λ _. ⌜ now (set .exit) ≡ judgeLeaves (readKb limit (now (sheet .entry))) (now (set .entry)) ⌝ }
+{
+    let a = domino::judge(sheet, set);
+    match a {
+        JudgeAnswer::Refused(n, p) => {
+            *place = p as u64;
+            n as u64
+        }
+        JudgeAnswer::Judged(o, s, b) => {
+            *opening = o;
+            *survivors = s;
+            *met = b as u64;
+            0
+        }
     }
 }

@@ -2,20 +2,20 @@
 
 const MAX_RECORDS: usize = 255;
 
-const TOP: u8 = 0x01;
-const BOTTOM: u8 = 0x02;
-const NAME: u8 = 0x03;
+pub(crate) const TOP: u8 = 0x01;
+pub(crate) const BOTTOM: u8 = 0x02;
+pub(crate) const NAME: u8 = 0x03;
 const NOT: u8 = 0x04;
 const AND: u8 = 0x05;
 const OR: u8 = 0x06;
-const EXISTS: u8 = 0x07;
-const FORALL: u8 = 0x08;
-const ROLE: u8 = 0x10;
-const INVERSE: u8 = 0x11;
+pub(crate) const EXISTS: u8 = 0x07;
+pub(crate) const FORALL: u8 = 0x08;
+pub(crate) const ROLE: u8 = 0x10;
+pub(crate) const INVERSE: u8 = 0x11;
 const ROLE_NOT: u8 = 0x12;
 const ROLE_AND: u8 = 0x13;
 const ROLE_OR: u8 = 0x14;
-const AXIOM: u8 = 0x20;
+pub(crate) const AXIOM: u8 = 0x20;
 
 /// A sheet under construction.
 #[derive(Default)]
@@ -25,12 +25,13 @@ pub struct Sheet {
 }
 
 impl Sheet {
+    #[must_use]
     pub fn bytes(&self) -> &[u8] {
         &self.bytes
     }
 
     /// Adds a record and answers its number.
-    fn push<const N: usize>(&mut self, record: [u8; N]) -> u8 {
+    pub(crate) fn push<const N: usize>(&mut self, record: [u8; N]) -> u8 {
         let number = u8::try_from(self.records).expect("at most 255 records");
         self.bytes.extend(record);
         self.records += 1;
@@ -51,6 +52,7 @@ impl Sheet {
 }
 
 /// Every sheet with its name.
+#[must_use]
 pub fn all() -> [(&'static str, Sheet); 6] {
     [
         ("boolean tree", boolean_tree()),

@@ -1,5 +1,6 @@
 //! The functions of the static library. Each answers the number of a refusal,
-//! or 0; it writes `place` only on a refusal, all else only without one.
+//! or 0; it writes `place` only on a refusal, all else only without one (refusal
+//! 13 leaves the set settled).
 
 extern "C" {
     pub fn lodhrussi_read(
@@ -17,5 +18,45 @@ extern "C" {
         list: *mut u8,
         len: usize,
         place: *mut u64,
+    ) -> u64;
+
+    pub fn lodhrussi_open(
+        sheet: *const u8,
+        n: usize,
+        set: *mut u64,
+        words: usize,
+        place: *mut u64,
+        size: *mut u64,
+    ) -> u64;
+
+    /// The verdict is 0 Absent, 1 Struck, 2 Kept.
+    pub fn lodhrussi_strike(
+        sheet: *const u8,
+        n: usize,
+        set: *mut u64,
+        words: usize,
+        number: u64,
+        place: *mut u64,
+        verdict: *mut u64,
+    ) -> u64;
+
+    pub fn lodhrussi_settle(
+        sheet: *const u8,
+        n: usize,
+        set: *mut u64,
+        words: usize,
+        place: *mut u64,
+        survivors: *mut u64,
+    ) -> u64;
+
+    pub fn lodhrussi_judge(
+        sheet: *const u8,
+        n: usize,
+        set: *mut u64,
+        words: usize,
+        place: *mut u64,
+        opening: *mut u64,
+        survivors: *mut u64,
+        met: *mut u64,
     ) -> u64;
 }

@@ -1,8 +1,16 @@
-//! Reads and flattens knowledge bases of the description logic ALCIb, by calls
-//! into the static library `capi`.
+//! Reads, flattens and judges knowledge bases of the description logic ALCIb,
+//! by calls into the static library `capi`.
 //!
 //! The bytes of a knowledge base are called a sheet: records of concepts, roles
 //! and axioms, each record naming earlier ones.
+//!
+//! Judging goes by dominoes: a domino is two labels (sets of parts, one for
+//! each of two individuals) and the set of roles between them. The canonical
+//! domino set is the largest in which no domino is defective, and the knowledge
+//! base has a model precisely if that set is not empty. Domino sets are lent as
+//! words: domino n is bit n mod 64 of word n / 64, and with c parts, L roles, a
+//! left label A, a role set R and a right label B, n is
+//! A × 2<sup>2L + c</sup> + R × 2<sup>c</sup> + B.
 //!
 //! ```
 //! // Everything, role 0, name 0; some of role 0 is name 0; an axiom: everything is that.
@@ -15,15 +23,20 @@
 //! lodhrussi::list_marks(&sheet, &mut list)?;
 //! assert_eq!(list, [0, 0, 0, 2, 3, 0]);
 //!
+//! let mut set = [0; 1];
+//! assert!(lodhrussi::judge(&sheet, &mut set)?.met);
+//!
 //! // A restriction is cut off at byte 5.
 //! let refusal = lodhrussi::read(&sheet[..7]).unwrap_err();
 //! assert_eq!((refusal.number, refusal.place), (2, 5));
 //! # Ok::<(), lodhrussi::Refusal>(())
 //! ```
 
+mod dominoes;
 mod ffi;
 mod refusal;
 
+pub use dominoes::{judge, open, settle, strike, words_needed, Judgement, Strike, Verdict};
 pub use refusal::Refusal;
 
 /// What a sheet holds.
@@ -57,10 +70,10 @@ pub fn read(sheet: &[u8]) -> Result<Counts, Refusal> {
         ffi::lodhrussi_read(
             sheet.as_ptr(),
             sheet.len(),
-            &mut place,
-            &mut counts.traits,
-            &mut counts.links,
-            &mut counts.marks,
+            &raw mut place,
+            &raw mut counts.traits,
+            &raw mut counts.links,
+            &raw mut counts.marks,
         )
     };
     Refusal::check(number, place)?;
@@ -93,7 +106,7 @@ pub fn list_marks(sheet: &[u8], list: &mut [u8]) -> Result<(), Refusal> {
             sheet.len(),
             list.as_mut_ptr(),
             list.len(),
-            &mut place,
+            &raw mut place,
         )
     };
     Refusal::check(number, place)

@@ -35,5 +35,8 @@ pub(crate) enum Fault {
     NamedTwice = 7,
     HoldsOnEmptySet = 8,
     TooManyParts = 9,
+    SetTooShort = 10,
+    DominoTooLarge = 11,
     ListTooShort = 12,
+    LabelWithoutDomino = 13,
 }

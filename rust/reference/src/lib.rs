@@ -1,17 +1,27 @@
-//! An independent reader and flattener of knowledge bases (ALCIb, description
-//! logic with inverse and Boolean roles), written from document 01 alone.
+//! An independent reader, flattener and judge of knowledge bases (ALCIb,
+//! description logic with inverse and Boolean roles), written from document 01
+//! alone.
 //!
 //! The bytes of a knowledge base are called a sheet. [`read`] checks a sheet
 //! and counts; [`list_marks`] also lists the parts of the flattened knowledge
-//! base. Nothing is allocated.
+//! base. Neither allocates. [`open`], [`strike`], [`settle`] and [`judge`] go
+//! through all dominoes, with the definitions applied as they stand.
 
+mod calls;
+mod conditions;
 mod fault;
 mod flatten;
 mod kb;
 
+pub mod domino;
+pub mod flat;
+pub mod written;
+
 #[cfg(test)]
 mod tests;
 
+pub use calls::{judge, open, settle, strike, Judgement, Strike, Verdict};
+pub use conditions::Conditions;
 pub use fault::Refusal;
 
 use fault::Fault;
@@ -30,6 +40,10 @@ pub struct Counts {
 }
 
 /// Checks a sheet and counts its concept names, roles and parts.
+///
+/// # Errors
+///
+/// Refusals 1 to 8 for the first faulty record, then 9.
 pub fn read(sheet: &[u8]) -> Result<Counts, Refusal> {
     let mut kb = Kb::empty();
     kb.read(sheet)?;
@@ -47,6 +61,10 @@ pub fn read(sheet: &[u8]) -> Result<Counts, Refusal> {
 /// 3 universal), the name's or record's number, and 1 if that record is read
 /// under an odd number of nots. Bytes past the last part are kept; a refusal
 /// leaves the whole list as it was.
+///
+/// # Errors
+///
+/// The refusals of [`read`], then 12.
 pub fn list_marks(sheet: &[u8], list: &mut [u8]) -> Result<usize, Refusal> {
     let mut kb = Kb::empty();
     kb.read(sheet)?;

@@ -1,5 +1,9 @@
-use Rattle.capi.proofs.Laws.{list-refused, list-done}
+-- What list marks says is returned and written; the list is as it leaves it. Assumes nothing.
+use mathlib.Core.Path.{ap}
 use borrow.Author.Needs.{needs}
+use Rattle.tbox.specs.Answers.{listNumbers}
+use Rattle.capi.specs.Out.{resultOut, placeOut}
+use Rattle.capi.proofs.Laws.{said, place-said}
 use Rattle.capi.proofs.lodhrussi_list_marks.Statement.{statement}
 use Rattle.capi.proofs.lodhrussi_list_marks.Tie as tie
 
@@ -19,13 +23,21 @@ same-length : tie.Need-same-length
 same-length c = search needs
 
 returns : tie.Need-returns
-returns c = list-refused _ _ _ _ (c .before .before .before .before .before .list-marks .ensures) _ _ _ (c .before .a .given .1)
+unfolding listNumbers placeOut
+returns c =
+    let h = c .before .before .before .before .before .list-marks .ensures in
+    let e = said listNumbers _ _ _ (c .before .a .given .1) (h .answer) in
+    (ap resultOut e, (place-said _ _ _ e, h .list))
 
 same-length-2 : tie.Need-same-length-2
 same-length-2 c = search needs
 
 returns-2 : tie.Need-returns-2
-returns-2 c = list-done _ _ _ _ (c .before .before .before .before .list-marks .ensures) _ _ (c .enum-told .given .1)
+unfolding listNumbers placeOut
+returns-2 c =
+    let h = c .before .before .before .before .list-marks .ensures in
+    let e = said listNumbers _ _ _ (c .enum-told .given .1) (h .answer) in
+    (ap resultOut e, (place-said _ _ _ e, h .list))
 
 pub lodhrussi-list-marks-spec : {M : Type 1} → statement M
 lodhrussi-list-marks-spec =

@@ -1,5 +1,9 @@
-use Rattle.capi.proofs.Laws.{read-refused, read-done}
+-- What read says is returned and written. Assumes nothing.
+use mathlib.Core.Path.{ap}
 use borrow.Author.Needs.{needs}
+use Rattle.tbox.specs.Answers.{readNumbers}
+use Rattle.capi.specs.Out.{resultOut, placeOut}
+use Rattle.capi.proofs.Laws.{said, place-said, value-said}
 use Rattle.capi.proofs.lodhrussi_read.Statement.{statement}
 use Rattle.capi.proofs.lodhrussi_read.Tie as tie
 
@@ -16,11 +20,26 @@ enum-known-a-2 : tie.Need-enum-known-a-2
 enum-known-a-2 c = search needs
 
 returns : tie.Need-returns
-returns c = read-refused _ _ (c .before .before .before .read .ensures) _ _ _ _ _ _ (c .before .a .given .1)
+unfolding readNumbers placeOut
+returns c =
+    let h = c .before .before .before .read .ensures in
+    let e = said readNumbers _ _ _ (c .before .a .given .1) h in
+    (ap resultOut e, (place-said _ _ _ e, (value-said 0 _ _ _ e, (value-said 1 _ _ _ e, value-said 2 _ _ _ e))))
 
 returns-2 : tie.Need-returns-2
-returns-2 c = read-done _ _ (c .before .before .before .read .ensures) _ _ _ _ _ _ _ (c .before .a2 .given .1)
+unfolding readNumbers placeOut
+returns-2 c =
+    let h = c .before .before .before .read .ensures in
+    let e = said readNumbers _ _ _ (c .before .a2 .given .1) h in
+    (ap resultOut e, (place-said _ _ _ e, (value-said 0 _ _ _ e, (value-said 1 _ _ _ e, value-said 2 _ _ _ e))))
 
 pub lodhrussi-read-spec : {M : Type 1} → statement M
 lodhrussi-read-spec =
-    tie.close (tie.spec read-requires enum-known-a cast-result enum-known-a-2 returns returns-2)
+    tie.close
+    (tie.spec
+    read-requires
+    enum-known-a
+    cast-result
+    enum-known-a-2
+    returns
+    returns-2)

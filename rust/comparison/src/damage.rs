@@ -1,7 +1,7 @@
 //! Sheets with faults, and bytes that are hardly a sheet.
 
-use super::made_up::{self, Sheet, MAX_RECORDS};
-use super::random::Random;
+use crate::made_up::{self, Sheet, MAX_RECORDS};
+use crate::random::Random;
 
 const KINDS: [u8; 14] = [
     0x01, 0x02, 0x03, 0x04, 0x05, 0x06, 0x07, 0x08, 0x10, 0x11, 0x12, 0x13, 0x14, 0x20,

@@ -3,6 +3,7 @@
 pub struct Random(u64);
 
 impl Random {
+    #[must_use]
     pub fn seeded(seed: u64) -> Self {
         Random(seed.wrapping_mul(0x9E37_79B9_7F4A_7C15) | 1)
     }
@@ -28,12 +29,22 @@ impl Random {
         self.byte_below(256)
     }
 
+    pub fn word(&mut self) -> u64 {
+        self.next() << 32 | self.next()
+    }
+
     pub fn one_in(&mut self, n: usize) -> bool {
         self.below(n) == 0
     }
 
     pub fn pick<T: Copy>(&mut self, items: &[T]) -> T {
         items[self.below(items.len())]
+    }
+
+    pub fn shuffle<T>(&mut self, items: &mut [T]) {
+        for last in (1..items.len()).rev() {
+            items.swap(self.below(last + 1), last);
+        }
     }
 
     pub fn bytes(&mut self, len: usize) -> Vec<u8> {

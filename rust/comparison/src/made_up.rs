@@ -1,6 +1,6 @@
 //! Sheets without faults 1 to 8, built record by record.
 
-use super::random::Random;
+use crate::random::Random;
 
 pub const MAX_RECORDS: usize = 255;
 
@@ -43,6 +43,7 @@ pub struct Sheet {
 }
 
 impl Sheet {
+    #[must_use]
     pub fn is_full(&self) -> bool {
         self.starts.len() == MAX_RECORDS
     }
@@ -188,6 +189,24 @@ impl Plan {
     }
 }
 
+/// A plan for few parts and roles.
+fn small_plan(most: usize, random: &mut Random) -> Plan {
+    let roles = random.pick(&[0, 1, 1, 1, 1, 1, 2, 2, 3, 4]).min(most);
+    let names = random.below((most - roles).min(3) + 1);
+    Plan {
+        names,
+        roles,
+        records: match random.below(16) {
+            0 => random.below(6),
+            1 => 60 + random.below(120),
+            _ => 6 + random.below(30),
+        },
+        restrictions: 1 + random.below(most - roles - names + 1),
+        steps: steps(random),
+        reach_all: !random.one_in(6),
+    }
+}
+
 fn record_count(random: &mut Random) -> usize {
     match random.below(8) {
         0 => random.below(4),
@@ -217,7 +236,40 @@ fn steps(random: &mut Random) -> Vec<Step> {
 
 /// A made-up sheet without faults 1 to 8.
 pub fn sheet(random: &mut Random) -> Sheet {
-    let mut plan = Plan::new(random);
+    by_plan(Plan::new(random), random)
+}
+
+/// A made-up sheet without faults whose parts and roles come to at most `most`.
+pub fn small_sheet(most: usize, random: &mut Random) -> Vec<u8> {
+    loop {
+        let plan = small_plan(most, random);
+        let mut sheet = by_plan(plan, random);
+        if random.one_in(2) {
+            narrow(&mut sheet, random);
+        }
+        let fits = |counts: reference::Counts| counts.marks + counts.links <= most as u64;
+        if reference::read(&sheet.bytes).is_ok_and(fits) {
+            return sheet.bytes;
+        }
+    }
+}
+
+/// Adds axioms that leave less room: everything is some concept, or some
+/// concept is nothing.
+fn narrow(sheet: &mut Sheet, random: &mut Random) {
+    if sheet.starts.len() + 12 > MAX_RECORDS || sheet.concepts.is_empty() {
+        return;
+    }
+    let top = sheet.push(&[0x01]);
+    let bottom = sheet.push(&[0x02]);
+    for _ in 0..1 + random.below(3) {
+        let concept = sheet.take_concept(random);
+        let sides = random.pick(&[[top, concept], [concept, bottom]]);
+        sheet.push(&[0x20, sides[0], sides[1]]);
+    }
+}
+
+fn by_plan(mut plan: Plan, random: &mut Random) -> Sheet {
     let mut sheet = Sheet::default();
     while sheet.starts.len() < plan.records {
         let step = random.pick(&plan.steps);

@@ -1,0 +1,6 @@
+//! A plain Rust engine to time the product against, and sheets to time.
+
+pub mod families;
+pub mod plain;
+pub mod sheets;
+pub mod timing;

@@ -1,0 +1,207 @@
+//! The comparisons of one engine with the reference, by seed.
+
+use crate::dominoes::{Answer, Call, Tally};
+use crate::random::Random;
+use crate::{damage, few_axioms, made_up, reading, sequences, worked, Judging, Reading};
+use std::io::{self, Write};
+use std::{env, fmt};
+
+/// Names a number that all counts of sheets are multiplied by.
+const FACTOR_VARIABLE: &str = "LODHRUSSI_FACTOR";
+
+fn times(count: u64) -> u64 {
+    let factor = env::var(FACTOR_VARIABLE).ok();
+    count * factor.and_then(|text| text.parse().ok()).unwrap_or(1)
+}
+
+/// Prints even where the test harness keeps output back.
+///
+/// # Panics
+///
+/// If standard output is closed.
+pub fn report(name: &str, tally: &impl fmt::Display) {
+    writeln!(io::stdout(), "{name}: {tally}").expect("standard output takes the report");
+}
+
+/// Document 01's sheets and their beginnings.
+pub fn worked_reading(engine: &impl Reading) -> reading::Tally {
+    let mut random = Random::seeded(1);
+    let mut tally = reading::Tally::default();
+    for sheet in worked::all() {
+        for end in 0..=sheet.len() {
+            tally.compare(engine, &sheet[..end], &mut random);
+        }
+    }
+    tally
+}
+
+/// Made-up sheets, damaged ones, and random bytes.
+pub fn made_up_reading(engine: &impl Reading) -> reading::Tally {
+    let mut random = Random::seeded(2);
+    let mut tally = reading::Tally::default();
+    for _ in 0..times(30_000) {
+        tally.compare(engine, &made_up::sheet(&mut random).bytes, &mut random);
+    }
+    for _ in 0..times(30_000) {
+        tally.compare(engine, &damage::damaged(&mut random), &mut random);
+    }
+    for _ in 0..times(10_000) {
+        tally.compare(engine, &damage::noise(&mut random), &mut random);
+    }
+    tally
+}
+
+/// Document 01's sheets and their beginnings.
+///
+/// # Panics
+///
+/// Where engine and reference differ.
+pub fn worked_dominoes(engine: &impl Judging) -> Tally {
+    let mut random = Random::seeded(4);
+    let mut tally = Tally::default();
+    for sheet in worked::all() {
+        for end in 0..=sheet.len() {
+            tally.compare(engine, &sheet[..end], &mut random);
+        }
+    }
+    let twelve = worked::from_hex(worked::TWELVE);
+    for words in [0, 1, 4_096, 262_143] {
+        for call in [Call::Open, Call::Strike(0), Call::Settle, Call::Judge] {
+            let refusal = tally.call(engine, call, &twelve, &mut vec![7; words]);
+            assert_eq!(refusal.unwrap_err().number, 10);
+        }
+    }
+    tally
+}
+
+/// The numbers that document 01 gives, without the reference.
+///
+/// # Panics
+///
+/// Where the engine answers otherwise.
+pub fn worked_numbers(engine: &impl Judging) {
+    for (hex, _, opening, survivors, met) in worked::JUDGED {
+        let sheet = worked::from_hex(hex);
+        let mut set = [7; 8];
+        assert_eq!(engine.open(&sheet, &mut set), Ok(opening), "{hex}");
+        assert_eq!(engine.settle(&sheet, &mut set), Ok(survivors), "{hex}");
+        let judgement = engine.judge(&sheet, &mut set).map(Answer::Judged);
+        let expected = reference::Judgement {
+            opening,
+            survivors,
+            met,
+        };
+        assert_eq!(judgement, Ok(Answer::Judged(expected)), "{hex}");
+    }
+    let twelve = worked::from_hex(worked::TWELVE);
+    let mut set = vec![7; 262_144];
+    let judgement = engine.judge(&twelve, &mut set);
+    assert_eq!(judgement.map(|judgement| judgement.survivors), Ok(1 << 24));
+    assert!(set.iter().all(|&word| word == u64::MAX));
+    for (hex, number, place) in worked::REFUSED {
+        let mut set = [7; 8];
+        let refusal = reference::Refusal { number, place };
+        let sheet = worked::from_hex(hex);
+        assert_eq!(engine.open(&sheet, &mut set), Err(refusal), "{hex}");
+        assert_eq!(engine.judge(&sheet, &mut set), Err(refusal), "{hex}");
+        assert_eq!(set, [7; 8]);
+    }
+}
+
+/// Made-up sheets whose parts and roles come to at most 7.
+///
+/// # Panics
+///
+/// Where engine and reference differ.
+pub fn small_dominoes(engine: &impl Judging) -> Tally {
+    let mut random = Random::seeded(5);
+    let mut tally = Tally::default();
+    for turn in 0..times(24_000) {
+        let size = 1 + turn as usize % 7;
+        let sheet = match turn % 4 {
+            0 | 1 => made_up::small_sheet(size, &mut random),
+            2 => few_axioms::sheet(size, &mut random),
+            _ => few_axioms::unmet_sheet(size, &mut random),
+        };
+        tally.compare(engine, &sheet, &mut random);
+    }
+    assert!(4 * tally.unmet >= tally.sheets && 10 * tally.unmet_in_steps >= tally.sheets);
+    assert!(tally.struck[1..].iter().all(|&count| count >= 500));
+    tally
+}
+
+/// Made-up sheets whose parts and roles come to 8 or 9.
+///
+/// # Panics
+///
+/// Where engine and reference differ.
+pub fn large_dominoes(engine: &impl Judging) -> Tally {
+    let mut random = Random::seeded(6);
+    let mut tally = Tally::default();
+    for turn in 0..times(400) {
+        let size = 8 + turn as usize / 4 % 2;
+        let sheet = match turn % 4 {
+            0 | 1 => few_axioms::sheet(size, &mut random),
+            2 => few_axioms::unmet_sheet(size, &mut random),
+            _ => made_up::small_sheet(9, &mut random),
+        };
+        tally.compare(engine, &sheet, &mut random);
+    }
+    tally
+}
+
+/// Damaged sheets and random bytes.
+pub fn damaged_dominoes(engine: &impl Judging) -> Tally {
+    let mut random = Random::seeded(7);
+    let mut tally = Tally::default();
+    for _ in 0..times(20_000) {
+        compare_unless_large(
+            &mut tally,
+            engine,
+            &damage::damaged(&mut random),
+            &mut random,
+        );
+    }
+    for _ in 0..times(10_000) {
+        compare_unless_large(&mut tally, engine, &damage::noise(&mut random), &mut random);
+    }
+    for (number, &count) in tally.refused.iter().enumerate().take(12).skip(1) {
+        assert!(count >= 100, "refusal {number} is rare");
+    }
+    tally
+}
+
+/// Leaves out sheets whose sets take long to go through.
+fn compare_unless_large(
+    tally: &mut Tally,
+    engine: &impl Judging,
+    sheet: &[u8],
+    random: &mut Random,
+) {
+    if !reference::read(sheet).is_ok_and(|counts| counts.marks + counts.links > 5) {
+        tally.compare(engine, sheet, random);
+    }
+}
+
+/// Lists of strikes and settlings, on document 01's and on made-up sheets.
+pub fn listed_calls(engine: &impl Judging) -> Tally {
+    let mut random = Random::seeded(8);
+    let mut tally = Tally::default();
+    for (hex, ..) in worked::JUDGED {
+        let sheet = worked::from_hex(hex);
+        for _ in 0..20 {
+            sequences::compare(&mut tally, engine, &sheet, 256, &mut random);
+        }
+    }
+    for turn in 0..times(2_000) {
+        let size = 2 + turn as usize / 4 % 5;
+        let sheet = match turn % 4 {
+            0 => made_up::small_sheet(size, &mut random),
+            1 => few_axioms::unmet_sheet(size, &mut random),
+            _ => few_axioms::sheet(size, &mut random),
+        };
+        let passes = if size <= 3 { 64 } else { 20 };
+        sequences::compare(&mut tally, engine, &sheet, passes, &mut random);
+    }
+    tally
+}

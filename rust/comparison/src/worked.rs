@@ -1,0 +1,53 @@
+//! Document 01's sheets to try, with what it says of them.
+
+pub use crate::hex::from_hex;
+
+/// A sheet that is judged: hex, parts, opening, survivors, met.
+pub type Judged = (&'static str, u64, u64, u64, bool);
+
+pub const S1: &str = "01 10 00 03 00 07 01 02 20 00 03";
+
+/// S0 to S6, then the sheet of one name.
+pub const JUDGED: [Judged; 8] = [
+    ("", 0, 1, 1, true),
+    (S1, 2, 32, 16, true),
+    (
+        "01 10 00 03 00 07 01 02 20 00 03 02 20 02 05",
+        2,
+        16,
+        0,
+        false,
+    ),
+    (
+        "01 10 00 03 00 07 01 02 20 00 03 11 00 02 08 05 06 20 02 07",
+        3,
+        64,
+        0,
+        false,
+    ),
+    ("10 00 01 08 00 01 02 20 02 03", 1, 8, 0, false),
+    ("01 03 00 10 00 08 02 00 06 01 03 20 00 04", 2, 48, 16, true),
+    ("03 00 10 00 04 00 07 01 02 20 00 03", 3, 144, 85, true),
+    ("03 00", 1, 4, 4, true),
+];
+
+/// A sheet that is refused: hex, number, place.
+pub type Refused = (&'static str, u64, u64);
+
+pub const REFUSED: [Refused; 5] = [
+    ("03 0C", 4, 0),
+    ("03 0B 10 00", 9, 0),
+    ("04 00", 5, 0),
+    ("03 00 04 00 05 01 01", 7, 4),
+    ("10 00 12 00 01 07 01 02", 8, 5),
+];
+
+/// The sheet of twelve parts.
+pub const TWELVE: &str = "03 0B";
+
+/// Every sheet, in document 01's order.
+pub fn all() -> impl Iterator<Item = Vec<u8>> {
+    let judged = JUDGED.iter().map(|&(hex, ..)| hex);
+    let refused = REFUSED.iter().map(|&(hex, ..)| hex);
+    judged.chain([TWELVE]).chain(refused).map(from_hex)
+}
