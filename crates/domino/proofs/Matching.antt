@@ -1,27 +1,28 @@
 -- A domino whose converse is out is defective: the steps of matching runs and rows are steps of Passed. Assumes nothing.
-use mathlib.Core.Path.{_≡_, refl, sym as flip, ap, ap₂, subst, subst₂, _∙_}
-use mathlib.Core.Bool.{Bool, true, false, not, _&&_, false≢true}
+use mathlib.Core.Path.{_≡_, refl, sym as flip, ap, ap₂, _∙_}
+use mathlib.Core.Bool.{Bool, true, false, not, _&&_}
 use mathlib.Core.List.{List}
-use mathlib.Core.Logic.{_⊎_, inl, inr}
+use mathlib.Core.Logic.{_⊎_}
 use Prim.Native.Nat.{ℕ, _+_, _-_, _*_, _/_, _%_, _^_, _≤_, _<_}
-use native.Mathlib.Nat.{add-assoc, div-eq-of-lt}
+use native.Mathlib.Nat.{add-assoc}
 use native.Mathlib.Omega.{arith}
 use lib.Dec.{T, eqb, T-not, not-T}
 use lib.ListN.{length, getD}
-use lib.Pow.{pow-pos}
+use lib.Pow.{pow-pos, shr-shr, split}
 use Rattle.bitset.specs.Bits.{Set, bit, look, cleared}
 use Rattle.bitset.proofs.Facts.{and-right, T-of}
+use Rattle.bitset.proofs.Laws.{bit-low, bit-past}
 use Rattle.bitset.proofs.Words.{length-cleared}
 use Rattle.elimination.proofs.Tests.{or-right}
-use Rattle.semantics.specs.Dominoes.{Dominoes, Domino, total, number, leftOf, rolesOf, rightOf, inverse, numbered}
+use Rattle.semantics.specs.Dominoes.{Dominoes, total, number, leftOf, rolesOf, rightOf, inverse, numbered}
 use Rattle.semantics.specs.Conditions.{View, delex, deluni, sym, sustained, dominoes, initial, lacks, defective}
 use Rattle.semantics.proofs.Numbers.{inverse-lt}
 use Rattle.semantics.proofs.Truths.{is-true, of-true}
 use Rattle.domino.specs.Tables.{Fits}
-use Rattle.domino.specs.Sweeps.{unmatched, Passed}
+use Rattle.domino.specs.Sweeps.{unmatched, Passed, Empty}
 use Rattle.domino.proofs.Rows.{total-le, next-run, run-le, at-place}
-use Rattle.domino.proofs.Dropping.{labels-words, run-words}
-use Rattle.domino.proofs.Passing.{pass-idle, pass-none, pass-stay, pass-clear, pass-on}
+use Rattle.domino.proofs.Dropping.{labels-words}
+use Rattle.domino.proofs.Passing.{pass-empty, pass-none, pass-stay, pass-clear, pass-on}
 
 -- the converse is out: the domino lacks something
 pub unmatched-lacks : (v : View) (S : Set) (n : ℕ) → T (unmatched v S n) → T (lacks v S n)
@@ -60,6 +61,36 @@ run-asks c l a words r at back f h e g = (
   rw g (inverse-lt l r),
   omega (arith, run-le c l a r (f .label) h, next-run c l a r),
 )
+
+-- k bits of a word are 0
+pub stretch-empty : (ws : List ℕ) (at e k : ℕ) → e ≡ at + k → at % 64 + k ≤ 64 → getD ws (at / 64) 0 / 2 ^ (at % 64) % 2 ^ k ≡ 0 → Empty at e ws
+unfolding Empty
+stretch-empty ws at e k g h z n lo hi =
+    let i : n / 64 ≡ at / 64 = omega arith in
+    let q : n % 64 ≡ at % 64 + (n - at) = omega arith in
+    ap₂ (λ (i k : ℕ). bit (getD ws i 0) k) i q
+    ∙ ap (λ (x : ℕ). eqb (x % 2) 1) (flip (shr-shr (getD ws (at / 64) 0) (at % 64) (n - at)))
+    ∙ none (getD ws (at / 64) 0 / 2 ^ (at % 64)) (n - at) (omega arith) z
+  where
+    none : (x d : ℕ) → d < k → x % 2 ^ k ≡ 0 → bit x d ≡ false
+    none x d l e =
+        ap (λ (y : ℕ). bit y d) (flip (split x k) ∙ ap (λ (y : ℕ). x / 2 ^ k * 2 ^ k + y) e)
+        ∙ bit-low (x / 2 ^ k) 0 k d (pow-pos k) l
+        ∙ bit-past 0 0 d (pow-pos 0) (omega arith)
+
+-- a byte of a word is 0, and a word
+pub byte-empty : (ws : List ℕ) (at from i : ℕ) → (at + from) % 64 ≡ 0 → i < 8 → getD ws ((at + from) / 64) 0 / 2 ^ (8 * i) % 256 ≡ 0
+    → Empty (at + (from + 8 * i)) (at + (from + 8 * i + 8)) ws
+byte-empty ws at from i h l z =
+    let j : (at + (from + 8 * i)) / 64 ≡ (at + from) / 64 = omega arith in
+    let q : (at + (from + 8 * i)) % 64 ≡ 8 * i = omega arith in
+    stretch-empty ws (at + (from + 8 * i)) _ 8 (omega arith) (omega arith) (rw (j, q) z)
+
+pub word-empty : (ws : List ℕ) (at i : ℕ) → at % 64 ≡ 0 → getD ws (at / 64 + i) 0 ≡ 0 → Empty (at + 64 * i) (at + (64 * i + 64)) ws
+word-empty ws at i h z =
+    let j : (at + 64 * i) / 64 ≡ at / 64 + i = omega arith in
+    let q : (at + 64 * i) % 64 ≡ 0 = omega arith in
+    stretch-empty ws (at + 64 * i) _ 64 (omega arith) (omega arith) (rw (j, q, z) refl)
 
 -- ---- a run: what is known of it only if `at` is its start and `back` the inverse of its role set
 module _ (c l a back at : ℕ) where
@@ -113,19 +144,9 @@ module _ (c l a back at : ℕ) where
     passed = λ v s p q h e f. pass-on v (unmatched v) x y z ws vs us b (j .passed v s p q h e f) r d (k .passed v s p q h e f) w;
   }
 
-  -- a word that is 0
-  pub run-zero : (i : ℕ) (ws : List ℕ) → 6 ≤ c → getD ws (at / 64 + i) 0 ≡ 0 → RunMatched (at + 64 * i) (at + (64 * i + 64)) ws ws false
-  run-zero i ws six z = record {
-    long = refl;
-    passed = λ v r p q h e f. pass-idle v (unmatched v) (at + 64 * i) (at + (64 * i + 64)) ws
-        (λ n lo hi t u. false≢true (flip (out n (run-words c l a r at six e) lo hi) ∙ is-true (look ws n) t));
-  }
-    where
-      out : (n : ℕ) → 64 * (at / 64) ≡ at → at + 64 * i ≤ n → n < at + (64 * i + 64) → look ws n ≡ false
-      out n e lo hi =
-          let f : n / 64 ≡ at / 64 + i = omega arith in
-          ap (λ (w : ℕ). bit w (n % 64)) (ap (λ (j : ℕ). getD ws j 0) f ∙ z)
-          ∙ ap (λ (x : ℕ). eqb (x % 2) 1) (div-eq-of-lt (pow-pos (n % 64)))
+  -- a part of it without a member
+  pub run-empty : (x y : ℕ) (ws : List ℕ) → Empty x y ws → RunMatched x y ws ws false
+  run-empty x y ws z = record { long = refl; passed = λ v r p q h e f. pass-empty v (unmatched v) x y ws z }
 
 -- ---- runs and rows
 module _ (c l : ℕ) where

@@ -18,7 +18,7 @@ use Rattle.elimination.proofs.Settling.{within-start, within-trans}
 use Rattle.elimination.proofs.CallsOnWords.{within-cleared}
 use Rattle.semantics.specs.Conditions.{View, dominoes, defective}
 use Rattle.semantics.proofs.Defects.{defective-monotone}
-use Rattle.domino.specs.Sweeps.{Passed}
+use Rattle.domino.specs.Sweeps.{Passed, Empty}
 use Rattle.domino.proofs.Keeping.{look-same, look-other}
 
 module _ (v : View) (test : Set → ℕ → Bool) where
@@ -32,6 +32,11 @@ module _ (v : View) (test : Set → ℕ → Bool) where
     still = λ q. (refl, f);
     fewer = λ q. absurd (false≢true q);
   }
+
+  -- a range without a member
+  pub pass-empty : (a e : ℕ) (ws : List ℕ) → Empty a e ws → Passed v test a e ws ws false
+  unfolding Empty
+  pass-empty a e ws z = pass-idle a e ws (λ n h l t u. T-of (z n h l) t)
 
   pub pass-none : (a : ℕ) (ws : List ℕ) → Passed v test a a ws ws false
   pass-none a ws = pass-idle a a ws (λ n h l. absurd (omega arith))

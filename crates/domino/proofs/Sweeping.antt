@@ -23,7 +23,7 @@ use Rattle.domino.specs.Sweeps.{unmatched, Emptied, Passed, Empty, Swept
 use Rattle.domino.proofs.Keeping.{and-out, in-or-out}
 use Rattle.domino.proofs.Rows.{row-le, left-in-row, row-end}
 use Rattle.domino.proofs.Polar.{witnessed-delex, witnessed-deluni}
-use Rattle.domino.proofs.Passing.{pass-idle}
+use Rattle.domino.proofs.Passing.{pass-idle, pass-empty, pass-at}
 
 -- ---- the witnesses of a row
 
@@ -86,10 +86,9 @@ module _ (v : View) (a : ℕ) (la : a < 2 ^ v .parts) where
   -- none of it is in
   pub sweep-idle : (ws : List ℕ) (at size : ℕ) → at ≡ from → size ≡ 2 ^ (v .roles + v .roles + v .parts) → Empty at (at + size) ws
       → Passed v (defective v) from upto ws ws false
-  unfolding Empty
   sweep-idle ws at size e f k =
-      let q = row-end (v .parts) (v .roles) a at size e f in
-      pass-idle v (defective v) from upto ws (λ n h l t u. false≢true (flip (k n (omega arith) (omega arith)) ∙ is-true (look ws n) t))
+      pass-at v (defective v) at from (at + size) upto ws ws false e (row-end (v .parts) (v .roles) a at size e f)
+      (pass-empty v (defective v) at (at + size) ws k)
 
   -- a part lacks its witness, so all of it goes
   module _ (ws vs : List ℕ) (m : Bool) (f : rowDefect v (numbered (v .parts) (v .roles) (look ws)) a ≡ 0 → ⊥) (k : Emptied from upto ws vs m) where

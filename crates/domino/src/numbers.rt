@@ -40,19 +40,12 @@ pub fn right_of(c: usize, n: usize) -> usize
     n % pow(c)
 }
 
-// The two lowest bits change places.
-fn swap(x: usize) -> usize
-    ensures { λ r. ⌜ r ≡ x % 4 / 2 + 2 * (x % 2) ⌝ }
-{
-    x % 4 / 2 + x % 2 + x % 2
-}
-
-// Each role for its inverse, for at most four roles.
+// Each role for its inverse, for at most four roles: the bits 2k and 2k + 1 change places.
 pub fn inverse(l: usize, r: usize) -> usize
     requires { ⌜ (l ≤ 4) × (r < 2 ^ (2 * l)) ⌝ }
     ensures { λ n. ⌜ n ≡ inverse l r ⌝ }
 {
-    swap(r) + (swap(r / 4) << 2) + (swap(r / 16) << 4) + (swap(r / 64) << 6)
+    ((r & 0x55) << 1) + ((r >> 1) & 0x55)
 }
 
 // The words that hold a set of dominoes.

@@ -1,9 +1,11 @@
-use mathlib.Core.Path.{_≡_, refl, ap, _∙_}
-use Prim.Native.Nat.{ℕ, _+_, _^_, _≤_}
+-- `match_run` meets its contract: by whole words, or in a part of a word, which may be empty. Assumes nothing.
+use mathlib.Core.Path.{refl, ap, _∙_}
+use Prim.Native.Nat.{ℕ, _+_}
 use native.Mathlib.Nat.{add-zero, zero-add}
 use native.Mathlib.Omega.{arith}
-use Rattle.domino.proofs.Rows.{run-end}
-use Rattle.domino.proofs.Passing.{pass-at}
+use Rattle.domino.proofs.Rows.{run-end, run-part}
+use Rattle.domino.proofs.Dropping.{run-words}
+use Rattle.domino.proofs.Passing.{pass-at, pass-empty}
 use Rattle.domino.proofs.Matching.{run-asks}
 use borrow.Author.Needs.{needs}
 use Rattle.domino.proofs.settling.match_run.Statement.{statement}
@@ -15,49 +17,74 @@ use Rattle.domino.proofs.numbers.inverse.Reads as inverse-reads
 use Rattle.domino.proofs.numbers.pow.Reads as pow-reads
 use Rattle.domino.proofs.settling.match_some.Reads as match-some-reads
 use Rattle.domino.proofs.settling.match_words.Reads as match-words-reads
+use Rattle.domino.proofs.settling.part_empty.Reads as part-empty-reads
 
--- src/settling.rt:68:9
 index-requires : tie.Need-index-requires
 index-requires c κs = search needs
 
--- src/settling.rt:69:9
 inverse-requires : tie.Need-inverse-requires
 inverse-requires c κs = search needs
 
--- src/settling.rt:71:54
-pow-requires : tie.Need-pow-requires
-pow-requires c κs = search needs
+match-words-requires : tie.Need-match-words-requires
+match-words-requires c κs =
+    let c3 = c .before .before .before in
+    let c5 = c3 .before .before in
+    let k = run-asks _ _ _ _ _ _ _ (c5 .pre .0) (c5 .pre .1) (c3 .index .ensures) (c .inverse .ensures) in
+    let q = run-words _ _ _ _ _ (c .before .before .if1 .taken) (c3 .index .ensures) in
+    (c5 .pre .0, c .before .before .if1 .taken, k .0, k .1, omega (arith, q))
 
--- src/settling.rt:71:9
-match-some-requires : tie.Need-match-some-requires
-match-some-requires c κs = let k = run-asks _ _ _ _ _ _ _ (c .before .before .before .before .before .before .pre .0) (c .before .before .before .before .before .before .pre .1) (c .before .before .before .before .index .ensures) (c .before .before .before .inverse .ensures) in
-    (c .before .before .before .before .before .before .pre .0, k .0, omega (arith, c .pow .ensures), k .1)
-
--- src/settling.rt:71:9
 same-length : tie.Need-same-length
 same-length c = search needs
 
--- src/settling.rt:71:9
 returns : tie.Need-returns
-returns c = λ v p q.
-    pass-at _ _ _ _ _ _ _ _ _ (add-zero _ ∙ c .before .before .before .before .before .before .before .index .ensures)
-    (ap (λ (x : ℕ). c .before .before .before .before .before .before .before .index .result + x) (zero-add (c .before .before .before .pow .result)) ∙ run-end _ _ _ _ _ _ (c .before .before .before .before .before .before .before .index .ensures) (c .before .before .before .pow .ensures))
-    (c .before .before .match-some .ensures v _ p q (c .before .before .before .before .before .before .before .before .before .pre .1) (c .before .before .before .before .before .before .before .index .ensures) (c .before .before .before .before .before .before .inverse .ensures))
+returns c =
+    let c6 = c .before .before .before .before .before .before in
+    let c8 = c6 .before .before in
+    λ v p q. pass-at _ _ _ _ _ _ _ _ _ (c6 .index .ensures) (run-end _ _ _ _ _ _ (c6 .index .ensures) refl)
+    (c .before .before .match-words .ensures v _ p q (c8 .pre .1) (c6 .index .ensures) (c .before .before .before .inverse .ensures))
 
--- src/settling.rt:73:5
-match-words-requires : tie.Need-match-words-requires
-match-words-requires c κs = let k = run-asks _ _ _ _ _ _ _ (c .before .before .before .before .before .pre .0) (c .before .before .before .before .before .pre .1) (c .before .before .before .index .ensures) (c .before .before .inverse .ensures) in
-    (c .before .before .before .before .before .pre .0, c .before .if1 .left, k .0, k .1)
+pow-requires : tie.Need-pow-requires
+pow-requires c κs = search needs
 
--- src/settling.rt:64:1
+part-empty-requires : tie.Need-part-empty-requires
+part-empty-requires c κs =
+    let c3 = c .before .before .before in
+    let c5 = c3 .before .before in
+    run-part _ _ _ _ (c5 .pre .0) _ _ _ _ (c5 .pre .1) (omega arith) (c3 .index .ensures) (c .pow .ensures) refl
+
 same-length-2 : tie.Need-same-length-2
 same-length-2 c = search needs
 
--- src/settling.rt:64:1
 returns-2 : tie.Need-returns-2
-returns-2 c = λ v p q.
-    pass-at _ _ _ _ _ _ _ _ _ (c .before .before .before .before .before .before .index .ensures) (run-end _ _ _ _ _ _ (c .before .before .before .before .before .before .index .ensures) refl)
-    (c .before .before .match-words .ensures v _ p q (c .before .before .before .before .before .before .before .before .pre .1) (c .before .before .before .before .before .before .index .ensures) (c .before .before .before .before .before .inverse .ensures))
+returns-2 c =
+    let c5 = c .before .before .before .before .before in
+    λ v p q. pass-at _ _ _ _ _ _ _ _ _ (c5 .index .ensures) (run-end _ _ _ _ _ _ (c5 .index .ensures) (c .before .before .pow .ensures))
+    (pass-empty _ _ _ _ _ (c .before .part-empty .ensures (c .if2 .taken)))
+
+inverse-requires-2 : tie.Need-inverse-requires-2
+inverse-requires-2 c κs = search needs
+
+pow-requires-2 : tie.Need-pow-requires-2
+pow-requires-2 c κs = search needs
+
+match-some-requires : tie.Need-match-some-requires
+match-some-requires c κs =
+    let c8 = c .before .before .before .before .before .before .before .before in
+    let c10 = c8 .before .before in
+    let k = run-asks _ _ _ _ _ _ _ (c10 .pre .0) (c10 .pre .1) (c8 .index .ensures) (c .before .inverse2 .ensures) in
+    (c10 .pre .0, k .0, omega (arith, c .pow2 .ensures), k .1)
+
+same-length-3 : tie.Need-same-length-3
+same-length-3 c = search needs
+
+returns-3 : tie.Need-returns-3
+returns-3 c =
+    let c3 = c .before .before .before in
+    let c11 = c3 .before .before .before .before .before .before .before .before in
+    let c13 = c11 .before .before in
+    λ v p q. pass-at _ _ _ _ _ _ _ _ _ (add-zero _ ∙ c11 .index .ensures)
+    (ap (λ (x : ℕ). c11 .index .result + x) (zero-add (c3 .pow2 .result)) ∙ run-end _ _ _ _ _ _ (c11 .index .ensures) (c3 .pow2 .ensures))
+    (c .before .before .match-some .ensures v _ p q (c13 .pre .1) (c11 .index .ensures) (c .before .before .before .before .inverse2 .ensures))
 
 pub match-run-spec : {M : Type 1} → statement M
 match-run-spec =
@@ -65,10 +92,15 @@ match-run-spec =
     (tie.spec
     index-requires
     inverse-requires
-    pow-requires
-    match-some-requires
+    match-words-requires
     same-length
     returns
-    match-words-requires
+    pow-requires
+    part-empty-requires
     same-length-2
-    returns-2)
+    returns-2
+    inverse-requires-2
+    pow-requires-2
+    match-some-requires
+    same-length-3
+    returns-3)
