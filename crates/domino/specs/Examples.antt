@@ -4,6 +4,7 @@ use Prim.Native.Nat.{ℕ}
 use mathlib.Core.List.{List, [], _∷_, _++_}
 use Rattle.tbox.specs.Reading.{readKb}
 use Rattle.tbox.specs.Answers.{limit}
+use Rattle.tbox.specs.Examples.{s1, s2, s3, s4, s5, s6}
 use Rattle.semantics.specs.Dominoes.{total, wordsFor}
 use Rattle.domino.specs.Answers.{openSays, openLeaves, strikeSays, strikeLeaves, settleSays, judgeSays, judgeLeaves}
 
@@ -26,24 +27,6 @@ answered r =
     let s = readKb limit (r .sheet) in
     row (r .sheet) (r .lent) (openSays s (r .lent)) (openLeaves s (r .lent)) (settleSays s (openLeaves s (r .lent)))
     (judgeSays s (r .lent)) (judgeLeaves s (r .lent))
-
-abbrev s1 : List ℕ
-s1 = 0x01 ∷ 0x10 ∷ 0x00 ∷ 0x03 ∷ 0x00 ∷ 0x07 ∷ 0x01 ∷ 0x02 ∷ 0x20 ∷ 0x00 ∷ 0x03 ∷ []
-
-abbrev s2 : List ℕ
-s2 = s1 ++ (0x02 ∷ 0x20 ∷ 0x02 ∷ 0x05 ∷ [])
-
-abbrev s3 : List ℕ
-s3 = s1 ++ (0x11 ∷ 0x00 ∷ 0x02 ∷ 0x08 ∷ 0x05 ∷ 0x06 ∷ 0x20 ∷ 0x02 ∷ 0x07 ∷ [])
-
-abbrev s4 : List ℕ
-s4 = 0x10 ∷ 0x00 ∷ 0x01 ∷ 0x08 ∷ 0x00 ∷ 0x01 ∷ 0x02 ∷ 0x20 ∷ 0x02 ∷ 0x03 ∷ []
-
-abbrev s5 : List ℕ
-s5 = 0x01 ∷ 0x03 ∷ 0x00 ∷ 0x10 ∷ 0x00 ∷ 0x08 ∷ 0x02 ∷ 0x00 ∷ 0x06 ∷ 0x01 ∷ 0x03 ∷ 0x20 ∷ 0x00 ∷ 0x04 ∷ []
-
-abbrev s6 : List ℕ
-s6 = 0x03 ∷ 0x00 ∷ 0x10 ∷ 0x00 ∷ 0x04 ∷ 0x00 ∷ 0x07 ∷ 0x01 ∷ 0x02 ∷ 0x20 ∷ 0x00 ∷ 0x03 ∷ []
 
 -- what is lent: a full word, and a word that no call may touch; four full words and one more
 abbrev one : List ℕ

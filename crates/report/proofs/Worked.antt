@@ -10,7 +10,7 @@ use lib.ListN.{length, getD, replicate, length-replicate}
 use borrow.Author.Tests.{lt-ltb, le-ltb, ltb-false}
 use Rattle.tbox.specs.Reading.{Kb, Reading, refusal, kb, partsOf, readKb}
 use Rattle.tbox.specs.Answers.{limit, readSays}
-use Rattle.tbox.specs.Examples.{Row as ReadRow}
+use Rattle.tbox.specs.Examples.{Row as ReadRow, s1, s2}
 use Rattle.tbox.proofs.Worked.{rows-right as reads-right}
 use Rattle.semantics.specs.Views.{kbView}
 use Rattle.domino.specs.Answers.{held, isShort, judgeSays}
@@ -43,12 +43,6 @@ more-words (refusal n p) us ws h e = refl
 more-words (kb k) us ws h e = not-two (isShort k us) (isShort k ws) (10 ∷ 0 ∷ []) _ (enough k us ws h) refl e
 
 -- ---- S1, S2
-
-abbrev s1 : List ℕ
-s1 = 0x01 ∷ 0x10 ∷ 0x00 ∷ 0x03 ∷ 0x00 ∷ 0x07 ∷ 0x01 ∷ 0x02 ∷ 0x20 ∷ 0x00 ∷ 0x03 ∷ []
-
-abbrev s2 : List ℕ
-s2 = s1 ++ (0x02 ∷ 0x20 ∷ 0x02 ∷ 0x05 ∷ [])
 
 -- the words lent in the table of worked sheets
 abbrev lent : List ℕ
