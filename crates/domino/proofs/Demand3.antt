@@ -1,6 +1,6 @@
 -- Demand 3: what a single call does, and what every list of strikes and settlings from words just opened does. Assumes nothing.
 use mathlib.Core.Path.{_≡_, refl, sym as flip, ap, subst, _∙_}
-use mathlib.Core.Bool.{Bool, true, false, not, _&&_, cond}
+use mathlib.Core.Bool.{Bool, true, false, not, _&&_, cond, and-true, and-false}
 use mathlib.Core.List.{List, [], _∷_}
 use Prim.Native.Nat.{ℕ, _*_, _≤_, _<_}
 use native.Mathlib.Omega.{arith}
@@ -26,14 +26,6 @@ use Rattle.domino.proofs.Saying.{held-room, written-long, written-look,
 
 -- ---- single calls
 
-and-no : (b : Bool) → (b && false) ≡ false
-and-no true = refl
-and-no false = refl
-
-and-yes : (b : Bool) → (b && true) ≡ b
-and-yes true = refl
-and-yes false = refl
-
 -- a strike of a number below N: `fine` says that it is not defective
 strike-named : (N : ℕ) (def : Set → ℕ → Bool) (n : ℕ) (ws : List ℕ) (fine : Bool) → n < N → N ≤ 64 * length ws → def (look ws) n ≡ not fine
     → look (strikeWords N def n ws) n ≡ (look ws n && fine)
@@ -42,7 +34,7 @@ strike-named N def n ws fine h r e = rw (lt-ltb n N h, e) (go (look ws n) fine r
     go : (b y : Bool) → look ws n ≡ b → look (cond (b && not y) (cleared ws n) ws) n ≡ (b && y)
     go true true q = q
     go true false q =
-        look-cleared ws n (omega arith) n ∙ ap (λ (b : Bool). look ws n && not b) (eq-eqb n n refl) ∙ and-no (look ws n)
+        look-cleared ws n (omega arith) n ∙ ap (λ (b : Bool). look ws n && not b) (eq-eqb n n refl) ∙ and-false (look ws n)
     go false y q = q
 
 strike-others : (N : ℕ) (def : Set → ℕ → Bool) (n p : ℕ) (ws : List ℕ) → N ≤ 64 * length ws → (p ≡ n → ⊥)
@@ -52,7 +44,7 @@ strike-others N def n p ws r f = go (ltb n N) refl (look ws n && def (look ws) n
     go : (a : Bool) → ltb n N ≡ a → (b : Bool) → look (cond (a && b) (cleared ws n) ws) p ≡ look ws p
     go true q true =
         let h : n < N = ltb-true n N q in
-        look-cleared ws n (omega arith) p ∙ ap (λ (b : Bool). look ws p && not b) (ne-eqb p n f) ∙ and-yes (look ws p)
+        look-cleared ws n (omega arith) p ∙ ap (λ (b : Bool). look ws p && not b) (ne-eqb p n f) ∙ and-true (look ws p)
     go true q false = refl
     go false q b = refl
 

@@ -5,9 +5,9 @@ pub mod Walks
 pub mod Polar
 pub mod Defects
 pub mod Witnesses
-pub mod Beginnings
 pub mod Masks
 pub mod Whole
+pub mod Beginnings
 pub mod Writing
 pub mod Dropping
 pub mod Passing

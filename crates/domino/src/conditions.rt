@@ -27,7 +27,7 @@ pub struct Parts {
 }
 
 // Is the filler f in the label b?
-pub fn has(f: u8, b: usize) -> bool
+fn has(f: u8, b: usize) -> bool
     ensures { λ y. ⌜ y ≡ inLabel f b ⌝ }
 {
     if f < 64 {
@@ -37,7 +37,7 @@ pub fn has(f: u8, b: usize) -> bool
 }
 
 // Does the role of part k hold on the role set r?
-pub fn holds(role: &[u64; 80], k: usize, r: usize) -> bool
+fn holds(role: &[u64; 80], k: usize, r: usize) -> bool
     requires { ⌜ (k < 20) × (r < 256) ⌝ }
     ensures { λ y. ⌜ ((p : Parts) → y ≡ view p (now (role .entry)) [] .holds k r) ⌝ }
 {
@@ -45,7 +45,7 @@ pub fn holds(role: &[u64; 80], k: usize, r: usize) -> bool
     (role[i] >> (r % 64)) % 2 == 1
 }
 
-pub fn wanted(want: bool, x: bool) -> bool
+pub(crate) fn wanted(want: bool, x: bool) -> bool
     ensures { λ y. ⌜ y ≡ is want x ⌝ }
 {
     if want { x } else { !x }
@@ -65,7 +65,7 @@ fn in_label(a: usize, k: usize) -> bool
 }
 
 // Condition 1 of the left label a.
-pub fn is_good(good: &[u64; 64], a: usize) -> bool
+pub(crate) fn is_good(good: &[u64; 64], a: usize) -> bool
     requires { ⌜ a < 4096 ⌝ }
     ensures { λ y. ⌜ y ≡ look (now (good .entry)) a ⌝ }
 {
@@ -134,7 +134,7 @@ fn witnessed(set: &[u64], p: Parts, role: &[u64; 80], a: usize, want: bool) -> b
 }
 
 // The first of the conditions 4 and 5 that the left label a fails, 0 for none.
-pub fn row_defect(set: &[u64], p: Parts, role: &[u64; 80], a: usize) -> u8
+pub(crate) fn row_defect(set: &[u64], p: Parts, role: &[u64; 80], a: usize) -> u8
     requires { ⌜ Row p a (length (now set)) ⌝ }
     ensures { λ y. ⌜ y ≡ rowDefect (view p (now (role .entry)) []) (numbered (p .count) (p .roles) (look (now (set .entry)))) a ⌝ }
 {
@@ -148,7 +148,7 @@ pub fn row_defect(set: &[u64], p: Parts, role: &[u64; 80], a: usize) -> u8
 }
 
 // Does part k ask something of the right label of (a, r, _)?
-pub fn asks(p: Parts, role: &[u64; 80], a: usize, r: usize, k: usize, want: bool) -> bool
+pub(crate) fn asks(p: Parts, role: &[u64; 80], a: usize, r: usize, k: usize, want: bool) -> bool
     requires { ⌜ (k < 20) × (r < 256) ⌝ }
     ensures { λ y. ⌜ y ≡ asks (view p (now (role .entry)) []) want a r k ⌝ }
 {
@@ -188,7 +188,7 @@ fn fits(p: Parts, role: &[u64; 80], a: usize, r: usize, b: usize, want: bool) ->
 }
 
 // The number of the first condition that the domino n fails, 0 for none.
-pub fn defect(set: &[u64], p: Parts, role: &[u64; 80], good: &[u64; 64], n: usize) -> u8
+pub(crate) fn defect(set: &[u64], p: Parts, role: &[u64; 80], good: &[u64; 64], n: usize) -> u8
     requires { ⌜ Room p (length (now set)) × (n < total (p .count) (p .roles)) ⌝ }
     ensures { λ y. ⌜ y ≡ defectAt (view p (now (role .entry)) (now (good .entry))) (look (now (set .entry))) n ⌝ }
 {

@@ -4,7 +4,7 @@ ghost use Prim.Native.Nat.{_+_, _*_, _/_, _%_, _^_, _<_, _≤_};
 ghost use Rattle.semantics.specs.Dominoes.{total, number, leftOf, rolesOf, rightOf, inverse, wordsFor, Domino};
 
 // 2 to the k.
-pub fn pow(k: usize) -> usize
+pub(crate) fn pow(k: usize) -> usize
     requires { ⌜ k < 64 ⌝ }
     ensures { λ n. ⌜ n ≡ 2 ^ k ⌝ }
 {
@@ -12,28 +12,28 @@ pub fn pow(k: usize) -> usize
 }
 
 // The number of the domino (a, r, b).
-pub fn index(c: usize, l: usize, a: usize, r: usize, b: usize) -> usize
+pub(crate) fn index(c: usize, l: usize, a: usize, r: usize, b: usize) -> usize
     requires { ⌜ (c + l ≤ 12) × Domino c l a r b ⌝ }
     ensures { λ n. ⌜ n ≡ number c l a r b ⌝ }
 {
     (a << (l + l + c)) + (r << c) + b
 }
 
-pub fn left_of(c: usize, l: usize, n: usize) -> usize
+pub(crate) fn left_of(c: usize, l: usize, n: usize) -> usize
     requires { ⌜ c + l ≤ 12 ⌝ }
     ensures { λ a. ⌜ a ≡ leftOf c l n ⌝ }
 {
     n >> (l + l + c)
 }
 
-pub fn roles_of(c: usize, l: usize, n: usize) -> usize
+pub(crate) fn roles_of(c: usize, l: usize, n: usize) -> usize
     requires { ⌜ c + l ≤ 12 ⌝ }
     ensures { λ r. ⌜ r ≡ rolesOf c l n ⌝ }
 {
     (n >> c) % pow(l + l)
 }
 
-pub fn right_of(c: usize, n: usize) -> usize
+pub(crate) fn right_of(c: usize, n: usize) -> usize
     requires { ⌜ c ≤ 12 ⌝ }
     ensures { λ b. ⌜ b ≡ rightOf c n ⌝ }
 {
@@ -41,7 +41,7 @@ pub fn right_of(c: usize, n: usize) -> usize
 }
 
 // Each role for its inverse, for at most four roles: the bits 2k and 2k + 1 change places.
-pub fn inverse(l: usize, r: usize) -> usize
+pub(crate) fn inverse(l: usize, r: usize) -> usize
     requires { ⌜ (l ≤ 4) × (r < 2 ^ (2 * l)) ⌝ }
     ensures { λ n. ⌜ n ≡ inverse l r ⌝ }
 {
@@ -49,7 +49,7 @@ pub fn inverse(l: usize, r: usize) -> usize
 }
 
 // The words that hold a set of dominoes.
-pub fn words_for(c: usize, l: usize) -> usize
+pub(crate) fn words_for(c: usize, l: usize) -> usize
     requires { ⌜ c + l ≤ 12 ⌝ }
     ensures { λ k. ⌜ k ≡ wordsFor (total c l) ⌝ }
 {

@@ -11,7 +11,7 @@ use domino::JudgeAnswer;
 use tbox::ReadAnswer;
 
 // Puts a text into the buffer from a place on, and answers the place after it.
-pub fn put_text(out: &mut [u8], at: usize, text: &[u8]) -> usize
+pub(crate) fn put_text(out: &mut [u8], at: usize, text: &[u8]) -> usize
     requires { ⌜ at + length (now text) ≤ length (now out) ⌝ }
     ensures { λ r. ⌜ Puts (now (text .entry)) at (now (out .entry)) (now (out .exit)) r ⌝ }
 {
@@ -24,7 +24,7 @@ pub fn put_text(out: &mut [u8], at: usize, text: &[u8]) -> usize
 }
 
 // Puts a number in decimal digits; no number of 64 bits has more than 20.
-pub fn put_number(out: &mut [u8], at: usize, n: u64) -> usize
+pub(crate) fn put_number(out: &mut [u8], at: usize, n: u64) -> usize
     requires { ⌜ at + 20 ≤ length (now out) ⌝ }
     ensures { λ r. ⌜ Puts (decimal n) at (now (out .entry)) (now (out .exit)) r ⌝ }
     ensures { λ r. ⌜ r ≤ at + 20 ⌝ }
@@ -35,7 +35,7 @@ pub fn put_number(out: &mut [u8], at: usize, n: u64) -> usize
 }
 
 // Puts a text, then a number.
-pub fn put_labelled(out: &mut [u8], at: usize, label: &[u8], n: u64) -> usize
+pub(crate) fn put_labelled(out: &mut [u8], at: usize, label: &[u8], n: u64) -> usize
     requires { ⌜ at + length (now label) + 20 ≤ length (now out) ⌝ }
     ensures { λ r. ⌜ Puts (now (label .entry) ++ decimal n) at (now (out .entry)) (now (out .exit)) r ⌝ }
     ensures { λ r. ⌜ r ≤ at + length (now (label .entry)) + 20 ⌝ }
@@ -45,7 +45,7 @@ pub fn put_labelled(out: &mut [u8], at: usize, label: &[u8], n: u64) -> usize
 }
 
 // The line of a refusal: its number, then its place.
-pub fn put_refusal(out: &mut [u8], at: usize, number: u64, place: u64) -> usize
+pub(crate) fn put_refusal(out: &mut [u8], at: usize, number: u64, place: u64) -> usize
     requires { ⌜ at + 53 ≤ length (now out) ⌝ }
     ensures { λ r. ⌜ Puts (refusedLine number place) at (now (out .entry)) (now (out .exit)) r ⌝ }
 {
@@ -55,7 +55,7 @@ pub fn put_refusal(out: &mut [u8], at: usize, number: u64, place: u64) -> usize
 }
 
 // The line of the counts of names, roles and parts.
-pub fn put_counts(out: &mut [u8], at: usize, names: u64, roles: u64, parts: u64) -> usize
+pub(crate) fn put_counts(out: &mut [u8], at: usize, names: u64, roles: u64, parts: u64) -> usize
     requires { ⌜ at + 82 ≤ length (now out) ⌝ }
     ensures { λ r. ⌜ Puts (countsLine names roles parts) at (now (out .entry)) (now (out .exit)) r ⌝ }
     ensures { λ r. ⌜ r ≤ at + 82 ⌝ }
@@ -67,7 +67,7 @@ pub fn put_counts(out: &mut [u8], at: usize, names: u64, roles: u64, parts: u64)
 }
 
 // The line of the sizes of the initial and the canonical set.
-pub fn put_sizes(out: &mut [u8], at: usize, opening: u64, survivors: u64) -> usize
+pub(crate) fn put_sizes(out: &mut [u8], at: usize, opening: u64, survivors: u64) -> usize
     requires { ⌜ at + 60 ≤ length (now out) ⌝ }
     ensures { λ r. ⌜ Puts (sizesLine opening survivors) at (now (out .entry)) (now (out .exit)) r ⌝ }
     ensures { λ r. ⌜ r ≤ at + 60 ⌝ }
@@ -78,7 +78,7 @@ pub fn put_sizes(out: &mut [u8], at: usize, opening: u64, survivors: u64) -> usi
 }
 
 // The line of the verdict.
-pub fn put_verdict(out: &mut [u8], at: usize, met: bool) -> usize
+pub(crate) fn put_verdict(out: &mut [u8], at: usize, met: bool) -> usize
     requires { ⌜ at + 14 ≤ length (now out) ⌝ }
     ensures { λ r. ⌜ Puts (verdictLine met) at (now (out .entry)) (now (out .exit)) r ⌝ }
 {
@@ -90,7 +90,13 @@ pub fn put_verdict(out: &mut [u8], at: usize, met: bool) -> usize
 }
 
 // The lines of what judge answered, beside the counts of names, roles and parts.
-pub fn put_judged(out: &mut [u8], names: u64, roles: u64, parts: u64, answer: JudgeAnswer) -> usize
+pub(crate) fn put_judged(
+    out: &mut [u8],
+    names: u64,
+    roles: u64,
+    parts: u64,
+    answer: JudgeAnswer,
+) -> usize
     requires { ⌜ 160 ≤ length (now out) ⌝ }
     ensures { λ r. ⌜ Puts (judgedLines names roles parts (judgeNumbers answer)) 0 (now (out .entry)) (now (out .exit)) r ⌝ }
 {

@@ -9,16 +9,12 @@ use lib.Seq.{getD-append-seam, getD-append-add}
 use Rattle.tbox.specs.Concepts.{Role, Concept, topC, bottomC, nameC, notC, andC, orC, existsC, forallC, Axiom}
 use Rattle.tbox.specs.Normal.{Tag, Nf, topN, bottomN, nameN, notN, andN, orN, existsN, forallN, plain, negated, axiomNf}
 use Rattle.tbox.specs.Flatten.{Filler, part, Part, nameP, freshP, existsP, forallP, Flat, partF, notF, orF, atom, Pending, whole, guarded, Walked, meetOne, walk, walkPending, Flattening, run, nameParts, pendings, flatten, noPart, partAt}
-use Rattle.tbox.specs.Bounds.{NamesBelow, EachRole, AxiomNames, AxiomRoles}
+use Rattle.tbox.specs.Bounds.{All, NamesBelow, EachRole, AxiomNames, AxiomRoles}
 use Rattle.tbox.proofs.Queue.{Left, left-start, left-step, left-end, left-part}
-use Rattle.tbox.proofs.Promised.{names-first, parts-roles, parts-plain}
-use Rattle.semantics.specs.Flattens.{All, AtomAt, Fills, Laid, Origin, ofAxiom, ofFiller, Flattens}
+use Rattle.tbox.proofs.Promised.{all-append, names-first, parts-roles, parts-plain}
+use Rattle.semantics.specs.Flattens.{AtomAt, Fills, Laid, Origin, ofAxiom, ofFiller, Flattens}
 
 -- each of two lists
-all-append : {A : Type 0} (P : A → Type 0) (l l′ : List A) → All P l → All P l′ → All P (l ++ l′)
-all-append P [] l′ h h′ = h′
-all-append P (a ∷ l) l′ h h′ = (h .0, all-append P l l′ (h .1) h′)
-
 all-left : {A : Type 0} (P : A → Type 0) (l l′ : List A) → All P (l ++ l′) → All P l
 all-left P [] l′ h = tt
 all-left P (a ∷ l) l′ h = (h .0, all-left P l l′ (h .1))

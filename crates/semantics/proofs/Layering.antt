@@ -17,12 +17,11 @@ use Rattle.tbox.specs.Concepts.{Role, named, inverse as inverseR, notR, andR, o
 use Rattle.tbox.specs.Normal.{Tag}
 use Rattle.tbox.specs.Flatten.{Filler, Part, existsP, forallP, Flat, partAt}
 use Rattle.tbox.specs.Truth.{eval, kbOn, roleOn}
-use Rattle.tbox.specs.Bounds.{RolesBelow, PartRole}
+use Rattle.tbox.specs.Bounds.{All, RolesBelow, PartRole}
 use Rattle.semantics.specs.Interpretations.{roleIn}
 use Rattle.semantics.specs.Dominoes.{Dominoes, inverse}
 use Rattle.semantics.specs.Conditions.{Stable}
 use Rattle.semantics.specs.Views.{fillerIn, viewOf}
-use Rattle.semantics.specs.Flattens.{All}
 use Rattle.semantics.specs.Labelling.{Labelling}
 use Rattle.semantics.specs.Layers.{labelAt, leads, rolesAt, labelled, Enumerates}
 use Rattle.semantics.proofs.Truths.{and-l, and-r, and-i, imp-i, imp-e, all-at, all-intro, any-intro, any-found}

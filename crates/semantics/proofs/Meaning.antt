@@ -11,11 +11,11 @@ use Rattle.tbox.specs.Concepts.{Role, Axiom}
 use Rattle.tbox.specs.Normal.{Tag, Nf, topN, bottomN, nameN, notN, andN, orN, existsN, forallN, axiomNf}
 use Rattle.tbox.specs.Flatten.{Filler, everything, nothing, part, Part, nameP, freshP, existsP, forallP, Flat, atom, noPart, partAt}
 use Rattle.tbox.specs.Truth.{eval}
-use Rattle.tbox.specs.Bounds.{Plain, FillerPlain, PartPlain}
+use Rattle.tbox.specs.Bounds.{All, Plain, FillerPlain, PartPlain}
 use Rattle.semantics.specs.Interpretations.{Interpretation, roleIn, holds, satisfies, models, holdsNf}
 use Rattle.semantics.specs.Views.{fillerIn}
 use Rattle.semantics.specs.Projection.{plainAt, readPart, partsIn}
-use Rattle.semantics.specs.Flattens.{All, AtomAt, Fills, Laid, Origin, ofAxiom, ofFiller, Flattens}
+use Rattle.semantics.specs.Flattens.{AtomAt, Fills, Laid, Origin, ofAxiom, ofFiller, Flattens}
 use Rattle.semantics.specs.Labelling.{Labelling}
 use Rattle.semantics.proofs.Truths.{and-l, and-r, and-i, or-case, or-l, or-r, imp-e, imp-i, all-at, all-intro, any-found, any-intro}
 use Rattle.semantics.proofs.NormalForm.{axiom-holds}

@@ -13,13 +13,12 @@ use Rattle.tbox.specs.Concepts.{Role, named, inverse as inverseR, notR, andR, o
 use Rattle.tbox.specs.Flatten.{Part, nameP, freshP, existsP, forallP, Flat, partAt}
 use Rattle.tbox.specs.Truth.{eval, kbOn, roleOn}
 use Rattle.tbox.specs.Promise.{kindOf, roleHolds}
-use Rattle.tbox.specs.Bounds.{RolesBelow, PartRole}
+use Rattle.tbox.specs.Bounds.{All, RolesBelow, PartRole}
 use Rattle.semantics.specs.Interpretations.{Interpretation, roleIn}
 use Rattle.semantics.specs.Dominoes.{Dominoes, inverse}
 use Rattle.semantics.specs.Conditions.{View, kb, ex, uni, witness, delex, deluni, sym, defect, initially, sustained, Stable, InRange}
 use Rattle.semantics.specs.Views.{fillerIn, hasFiller, viewOf}
 use Rattle.semantics.specs.Projection.{roleBit, roleSet, projectionOf}
-use Rattle.semantics.specs.Flattens.{All}
 use Rattle.semantics.specs.Labelling.{Labelling}
 use Rattle.semantics.proofs.Truths.{eqb-same, true-eqb, and-l, and-r, and-i, imp-e, imp-i, all-at, all-intro, any-intro, any-found, not-all}
 use Rattle.semantics.proofs.Numbers.{inverse-lt, inverse-even, inverse-odd}

@@ -7,12 +7,7 @@ use mathlib.Core.List.{List, [], _∷_}
 use Rattle.tbox.specs.Concepts.{Role, Axiom}
 use Rattle.tbox.specs.Normal.{Tag, Nf, topN, bottomN, nameN, notN, andN, orN, existsN, forallN, axiomNf}
 use Rattle.tbox.specs.Flatten.{Filler, everything, nothing, part, Part, nameP, freshP, existsP, forallP, Flat, topF, bottomF, partF, notF, andF, orF, atom, partAt}
-use Rattle.tbox.specs.Bounds.{AxiomRoles, PartRole, PartPlain}
-
--- each of a list
-abbrev pub All {ℓ κ} : {A : Type ℓ} → (A → Type κ) → List A → Type κ
-All P [] = Unit
-All P (a ∷ l) = P a × All P l
+use Rattle.tbox.specs.Bounds.{All, AxiomRoles, PartRole, PartPlain}
 
 -- a filler that needs no fresh name: a name stands at its own number
 unfoldable pub AtomAt : (ℕ → Part) → Filler → Type 0

@@ -8,9 +8,9 @@ use Rattle.tbox.specs.Concepts.{Role}
 use Rattle.tbox.specs.Normal.{Tag}
 use Rattle.tbox.specs.Flatten.{Filler, Part, nameP, existsP, forallP, Flat}
 use Rattle.tbox.specs.Truth.{eval}
+use Rattle.tbox.specs.Bounds.{All}
 use Rattle.semantics.specs.Interpretations.{Interpretation, roleIn}
 use Rattle.semantics.specs.Views.{fillerIn}
-use Rattle.semantics.specs.Flattens.{All}
 
 -- the labels `lab` (individual, part) fit an interpretation, where part k is m k and the flattened axioms are fs: they have the
 -- names, a restriction is in a label exactly if it holds of the labels that its role leads to, and every flattened axiom is

@@ -20,7 +20,7 @@ use Rattle.tbox.specs.Normal.{Tag, Nf, topN, bottomN, nameN, notN, andN,
 use Rattle.tbox.specs.Flatten.{Filler, everything, nothing, part, Part, nameP, freshP, existsP, forallP, atom, Pending, whole as wholeP, guarded, Walked, meetOne, walk, walkPending, run, weights, nameParts, pendings, flatten, noPart, partAt}
 use Rattle.tbox.specs.Truth.{roleOn}
 use Rattle.tbox.specs.Reading.{Kb, refusal, kb, kbOf, partsOf, admit, reading, readKb}
-use Rattle.tbox.specs.Bounds.{RolesBelow, NamesBelow, EachRole, AxiomNames, AxiomRoles, AxiomsBelow, PartRole, PartFiller, FillerLow, PartLow, FillerPlain, PartPlain}
+use Rattle.tbox.specs.Bounds.{All, RolesBelow, NamesBelow, EachRole, AxiomNames, AxiomRoles, AxiomsBelow, PartRole, PartFiller, FillerLow, PartLow, FillerPlain, PartPlain}
 use Rattle.tbox.proofs.Formed.{read-few}
 use Rattle.tbox.proofs.Bounded.{read-bounded, axioms-restricted}
 use Rattle.tbox.proofs.Queue.{names-length, left-start, left-grows, left-part}
@@ -42,11 +42,7 @@ pub names-first : (T : ℕ) (s : List Axiom) (i : ℕ) → i < T → partAt (fla
 names-first T s i h = left-part (left-start T s) i (omega (arith, names-length T)) ∙ names-at T i h
 
 -- what holds of each of a list
-abbrev All : {A : Type 0} → (A → Type 0) → List A → Type 0
-All P [] = Unit
-All P (a ∷ l) = P a × All P l
-
-all-append : {A : Type 0} (P : A → Type 0) (l l′ : List A) → All P l → All P l′ → All P (l ++ l′)
+pub all-append : {A : Type 0} (P : A → Type 0) (l l′ : List A) → All P l → All P l′ → All P (l ++ l′)
 all-append P [] l′ h h′ = h′
 all-append P (a ∷ l) l′ h h′ = (h .0, all-append P l l′ (h .1) h′)
 

@@ -4,6 +4,11 @@ use mathlib.Core.List.{List, [], _∷_}
 use Rattle.tbox.specs.Concepts.{Role, named, inverse, notR, andR, orR, Concept, topC, bottomC, nameC, notC, andC, orC, existsC, forallC, Axiom}
 use Rattle.tbox.specs.Flatten.{Filler, everything, nothing, part, Part, nameP, freshP, existsP, forallP}
 
+-- each of a list
+abbrev pub All {ℓ κ} : {A : Type ℓ} → (A → Type κ) → List A → Type κ
+All P [] = Unit
+All P (a ∷ l) = P a × All P l
+
 -- all roles of a role expression are below L
 abbrev pub RolesBelow : ℕ → Role → Type 0
 RolesBelow L (named k) = k < L
