@@ -36,12 +36,14 @@ pub struct Judgement {
     pub opening: u64,
     /// The size of the canonical domino set.
     pub survivors: u64,
-    /// Whether the knowledge base has a model.
+    /// Whether the canonical domino set has a member. If not, no finite
+    /// interpretation with at least one individual is a model.
     pub met: bool,
 }
 
 /// The words that a domino set of a sheet with these counts takes: one bit for
-/// each of the 4<sup>marks + links</sup> dominoes, and at least one word.
+/// each of the 4<sup>marks + links</sup> dominoes, and at least one word. The
+/// counts are those of a sheet that is read: marks and links at most 12.
 ///
 /// ```
 /// let counts = lodhrussi::Counts { traits: 8, links: 1, marks: 8 };
