@@ -24,7 +24,7 @@ use Rattle.tbox.specs.Flatten.{flatten, run, walkPending, walk, meetOne, atom, 
 use Rattle.tbox.specs.Truth.{eval, kbOn, roleOn}
 use Rattle.tbox.specs.Promise.{kindOf, roleHolds}
 use Rattle.tbox.specs.Reading.{Kb, Reading, refusal, kb, readKb, reading, admit}
-use Rattle.tbox.specs.Answers.{limit}
+use Rattle.tbox.specs.Answers.{limit, readSays}
 use Rattle.semantics.specs.Dominoes.{number, leftOf, rolesOf, rightOf, inverse, numbered}
 use Rattle.semantics.specs.Conditions.{View, kb as good, ex, uni, witness, delex, deluni, sym, defect, initially, sustained, dominoes, initial, lacks, defective, defectAt, canon}
 use Rattle.semantics.specs.Views.{fillerIn, hasFiller, kbView}
@@ -41,36 +41,36 @@ abbrev canonWords : View → List ℕ
 canonWords v = settledWords (held v) (dominoes v) (defective v) (initial v)
 
 -- the row of a view, for enough words
-abbrev viewRow : View → List ℕ → List ℕ → Row
-viewRow v s l =
+abbrev viewRow : View → List ℕ → List ℕ → List ℕ → Row
+viewRow v s r l =
     let us = canonWords v in
     let o = size (dominoes v) (initial v) in
     let n = size (dominoes v) (look us) in
-    row s l (0 ∷ 0 ∷ o ∷ []) (written (held v) (dominoes v) (initial v) l) (0 ∷ 0 ∷ n ∷ [])
+    row s r l (0 ∷ 0 ∷ o ∷ []) (written (held v) (dominoes v) (initial v) l) (0 ∷ 0 ∷ n ∷ [])
     (0 ∷ 0 ∷ o ∷ n ∷ cond (eqb n 0) 0 1 ∷ []) (us ++ drop (held v) l)
 
-abbrev refusedRow : ℕ → ℕ → List ℕ → List ℕ → Row
-refusedRow n p s l = row s l (n ∷ p ∷ []) l (n ∷ p ∷ []) (n ∷ p ∷ []) l
+abbrev refusedRow : ℕ → ℕ → List ℕ → List ℕ → List ℕ → Row
+refusedRow n p s r l = row s r l (n ∷ p ∷ []) l (n ∷ p ∷ []) (n ∷ p ∷ []) l
 
-abbrev readRow : Reading → List ℕ → List ℕ → Row
-readRow (refusal n p) s l = refusedRow n p s l
-readRow (kb k) s l = elim (isShort k l) [ true ↦ refusedRow 10 0 s l | false ↦ viewRow (kbView k) s l ]
+abbrev readRow : Reading → List ℕ → List ℕ → List ℕ → Row
+readRow (refusal n p) s r l = refusedRow n p s r l
+readRow (kb k) s r l = elim (isShort k l) [ true ↦ refusedRow 10 0 s r l | false ↦ viewRow (kbView k) s r l ]
 
 abbrev computed : Row → Row
-computed r = readRow (readKb limit (r .sheet)) (r .sheet) (r .lent)
+computed r = readRow (readKb limit (r .sheet)) (r .sheet) (readSays (readKb limit (r .sheet))) (r .lent)
 
 both-computed : (map computed table ≡ table) × (map struck strikes ≡ strikes)
-unfolding strikeSays strikeLeaves openLeaves verdictOf verdictNumber cleared readKb reading admit flatten run walkPending walk meetOne atom restrictions weight weights nameParts pendings plain negated axiomNf nodesOf nodesFrom nodeOf axiomsOf axiomOf scanSheet scan recordFault recordAfter after namesAfter rolesAfter bodyFault numberFault referenceFault emptyFault vacuousOf name shapeOf isLeaf isRestriction eval kbOn roleOn kindOf roleHolds number leftOf rolesOf rightOf inverse numbered good ex uni witness delex deluni sym defect initially sustained initial lacks defectAt fillerIn hasFiller word wordAt wordsFrom size every some
+unfolding readSays strikeSays strikeLeaves openLeaves verdictOf verdictNumber cleared readKb reading admit flatten run walkPending walk meetOne atom restrictions weight weights nameParts pendings plain negated axiomNf nodesOf nodesFrom nodeOf axiomsOf axiomOf scanSheet scan recordFault recordAfter after namesAfter rolesAfter bodyFault numberFault referenceFault emptyFault vacuousOf name shapeOf isLeaf isRestriction eval kbOn roleOn kindOf roleHolds number leftOf rolesOf rightOf inverse numbered good ex uni witness delex deluni sym defect initially sustained initial lacks defectAt fillerIn hasFiller word wordAt wordsFrom size every some
 both-computed = (refl, refl)
 
 -- ---- the definitions' answers are those
 
 module _ (k : Kb) (l : List ℕ) where
-  short-row : (t : List ℕ) → isShort k l ≡ true
-      → row t l (openSays (kb k) l) (openLeaves (kb k) l) (settleSays (kb k) (openLeaves (kb k) l)) (judgeSays (kb k) l) (judgeLeaves (kb k) l)
-      ≡ refusedRow 10 0 t l
+  short-row : (t r : List ℕ) → isShort k l ≡ true
+      → row t r l (openSays (kb k) l) (openLeaves (kb k) l) (settleSays (kb k) (openLeaves (kb k) l)) (judgeSays (kb k) l) (judgeLeaves (kb k) l)
+      ≡ refusedRow 10 0 t r l
   unfolding openSays openLeaves settleSays judgeSays judgeLeaves
-  short-row t q = rw (q, q)
+  short-row t r q = rw (q, q)
 
   module _ (h : held (kbView k) ≤ length l) where
     canon-words : canonWords (kbView k) ++ drop (held (kbView k)) l ≡ judgeLeaves (kb k) l
@@ -100,22 +100,22 @@ module _ (k : Kb) (l : List ℕ) where
         (settled-same (dominoes v) (defective v) (defective-monotone v) (look us) (initial v)
         (written-look (held v) (dominoes v) (initial v) l (held-room v))))
 
-    view-row : (t : List ℕ)
-        → row t l (openSays (kb k) l) (openLeaves (kb k) l) (settleSays (kb k) (openLeaves (kb k) l)) (judgeSays (kb k) l) (judgeLeaves (kb k) l)
-        ≡ viewRow (kbView k) t l
-    view-row t =
+    view-row : (t r : List ℕ)
+        → row t r l (openSays (kb k) l) (openLeaves (kb k) l) (settleSays (kb k) (openLeaves (kb k) l)) (judgeSays (kb k) l) (judgeLeaves (kb k) l)
+        ≡ viewRow (kbView k) t r l
+    view-row t r =
         rw (opened-size, open-leaves k l h, open-says k l h, judge-says k l h (never-stranded (kbView k)), canon-size, ← canon-words)
 
-same-row : (s : Reading) (t l : List ℕ)
-    → row t l (openSays s l) (openLeaves s l) (settleSays s (openLeaves s l)) (judgeSays s l) (judgeLeaves s l) ≡ readRow s t l
-same-row (refusal n p) t l = unfold openSays openLeaves settleSays judgeSays judgeLeaves in refl
-same-row (kb k) t l = go (isShort k l) refl
+same-row : (s : Reading) (t r l : List ℕ)
+    → row t r l (openSays s l) (openLeaves s l) (settleSays s (openLeaves s l)) (judgeSays s l) (judgeLeaves s l) ≡ readRow s t r l
+same-row (refusal n p) t r l = unfold openSays openLeaves settleSays judgeSays judgeLeaves in refl
+same-row (kb k) t r l = go (isShort k l) refl
   where
     go : (b : Bool) → isShort k l ≡ b
-        → row t l (openSays (kb k) l) (openLeaves (kb k) l) (settleSays (kb k) (openLeaves (kb k) l)) (judgeSays (kb k) l) (judgeLeaves (kb k) l)
-        ≡ elim b [ true ↦ refusedRow 10 0 t l | false ↦ viewRow (kbView k) t l ]
-    go true q = short-row k l t q
-    go false q = view-row k l (ltb-false (length l) (held (kbView k)) q) t
+        → row t r l (openSays (kb k) l) (openLeaves (kb k) l) (settleSays (kb k) (openLeaves (kb k) l)) (judgeSays (kb k) l) (judgeLeaves (kb k) l)
+        ≡ elim b [ true ↦ refusedRow 10 0 t r l | false ↦ viewRow (kbView k) t r l ]
+    go true q = short-row k l t r q
+    go false q = view-row k l (ltb-false (length l) (held (kbView k)) q) t r
 
 map-same : (f g : Row → Row) → ((r : Row) → f r ≡ g r) → (rs : List Row) → map f rs ≡ map g rs
 map-same f g e [] = refl
@@ -124,7 +124,7 @@ map-same f g e (r ∷ rs) = ap₂ (λ (x : Row) (xs : List Row). x ∷ xs) (e r)
 -- every row of the table is as the definitions have it
 pub rows-right : map answered table ≡ table
 rows-right =
-    map-same answered computed (λ r. same-row (readKb limit (r .sheet)) (r .sheet) (r .lent)) table ∙ both-computed .0
+    map-same answered computed (λ r. same-row (readKb limit (r .sheet)) (r .sheet) (readSays (readKb limit (r .sheet))) (r .lent)) table ∙ both-computed .0
 
 -- and every strike
 pub strikes-right : map struck strikes ≡ strikes

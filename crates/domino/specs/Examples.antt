@@ -3,14 +3,15 @@
 use Prim.Native.Nat.{ℕ}
 use mathlib.Core.List.{List, [], _∷_, _++_}
 use Rattle.tbox.specs.Reading.{readKb}
-use Rattle.tbox.specs.Answers.{limit}
+use Rattle.tbox.specs.Answers.{limit, readSays}
 use Rattle.tbox.specs.Examples.{s1, s2, s3, s4, s5, s6}
 use Rattle.semantics.specs.Dominoes.{total, wordsFor}
 use Rattle.domino.specs.Answers.{openSays, openLeaves, strikeSays, strikeLeaves, settleSays, judgeSays, judgeLeaves}
 
--- a sheet and words lent; what open says and leaves; what settle says then; what judge says and leaves
+-- a sheet and what read says of it; words lent; what open says and leaves; what settle says then; what judge says and leaves
 pub record Row : Type 0 where
   pub sheet : List ℕ
+  pub reads : List ℕ
   pub lent : List ℕ
   pub opens : List ℕ
   pub opened : List ℕ
@@ -18,14 +19,14 @@ pub record Row : Type 0 where
   pub judges : List ℕ
   pub judged : List ℕ
 
-abbrev pub row : List ℕ → List ℕ → List ℕ → List ℕ → List ℕ → List ℕ → List ℕ → Row
-row s l o p t j q = record { sheet = s; lent = l; opens = o; opened = p; settles = t; judges = j; judged = q }
+abbrev pub row : List ℕ → List ℕ → List ℕ → List ℕ → List ℕ → List ℕ → List ℕ → List ℕ → Row
+row s r l o p t j q = record { sheet = s; reads = r; lent = l; opens = o; opened = p; settles = t; judges = j; judged = q }
 
 -- the row, as the definitions have it
 abbrev pub answered : Row → Row
 answered r =
     let s = readKb limit (r .sheet) in
-    row (r .sheet) (r .lent) (openSays s (r .lent)) (openLeaves s (r .lent)) (settleSays s (openLeaves s (r .lent)))
+    row (r .sheet) (readSays s) (r .lent) (openSays s (r .lent)) (openLeaves s (r .lent)) (settleSays s (openLeaves s (r .lent)))
     (judgeSays s (r .lent)) (judgeLeaves s (r .lent))
 
 -- what is lent: a full word, and a word that no call may touch; four full words and one more
@@ -35,29 +36,36 @@ one = 0xffffffffffffffff ∷ 5 ∷ []
 abbrev four : List ℕ
 four = 0xffffffffffffffff ∷ 0xffffffffffffffff ∷ 0xffffffffffffffff ∷ 0xffffffffffffffff ∷ 5 ∷ []
 
--- the opening size, the survivors, and whether it is met; the words before the last, opened and judged
-abbrev works : List ℕ → List ℕ → ℕ → ℕ → ℕ → List ℕ → List ℕ → Row
-works s l o n m p q = row s l (0 ∷ 0 ∷ o ∷ []) (p ++ (5 ∷ [])) (0 ∷ 0 ∷ n ∷ []) (0 ∷ 0 ∷ o ∷ n ∷ m ∷ []) (q ++ (5 ∷ []))
+-- T, L and c
+abbrev counts : ℕ → ℕ → ℕ → List ℕ
+counts t l c = 0 ∷ 0 ∷ t ∷ l ∷ c ∷ []
 
--- every call is refused with this number and place
+-- the opening size, the survivors, and whether it is met; the words before the last, opened and judged
+abbrev works : List ℕ → List ℕ → List ℕ → ℕ → ℕ → ℕ → List ℕ → List ℕ → Row
+works s r l o n m p q = row s r l (0 ∷ 0 ∷ o ∷ []) (p ++ (5 ∷ [])) (0 ∷ 0 ∷ n ∷ []) (0 ∷ 0 ∷ o ∷ n ∷ m ∷ []) (q ++ (5 ∷ []))
+
+-- the set is too short; every call is refused as read is
+abbrev short : List ℕ → List ℕ → List ℕ → Row
+short s r l = row s r l (10 ∷ 0 ∷ []) l (10 ∷ 0 ∷ []) (10 ∷ 0 ∷ []) l
+
 abbrev refused : List ℕ → List ℕ → ℕ → ℕ → Row
-refused s l n p = row s l (n ∷ p ∷ []) l (n ∷ p ∷ []) (n ∷ p ∷ []) l
+refused s l n p = row s (n ∷ p ∷ []) l (n ∷ p ∷ []) l (n ∷ p ∷ []) (n ∷ p ∷ []) l
 
 abbrev pub table : List Row
 table =
-    works [] one 1 1 1 (1 ∷ []) (1 ∷ []) ∷
-    refused [] [] 10 0 ∷
-    works s1 one 32 16 1 (0xffffffff00000000 ∷ []) (0xcccccccc00000000 ∷ []) ∷
-    refused s1 [] 10 0 ∷
-    works s2 one 16 0 0 (0xffff00000000 ∷ []) (0 ∷ []) ∷
-    works s3 four 64 0 0 (0 ∷ 0xffffffff ∷ 0 ∷ 0xffff0000ffff ∷ []) (0 ∷ 0 ∷ 0 ∷ 0 ∷ []) ∷
-    refused s3 one 10 0 ∷
-    works s4 one 8 0 0 (0xff00 ∷ []) (0 ∷ []) ∷
-    works s5 one 48 16 1 (0xffffffffffff0000 ∷ []) (0xcccccccc00000000 ∷ []) ∷
-    works s6 four 144 85 1 (0xfff0fff ∷ 0xffffffffffffffff ∷ 0xfff0fff ∷ 0xffffffff ∷ [])
+    works [] (counts 0 0 0) one 1 1 1 (1 ∷ []) (1 ∷ []) ∷
+    short [] (counts 0 0 0) [] ∷
+    works s1 (counts 1 1 2) one 32 16 1 (0xffffffff00000000 ∷ []) (0xcccccccc00000000 ∷ []) ∷
+    short s1 (counts 1 1 2) [] ∷
+    works s2 (counts 1 1 2) one 16 0 0 (0xffff00000000 ∷ []) (0 ∷ []) ∷
+    works s3 (counts 1 1 3) four 64 0 0 (0 ∷ 0xffffffff ∷ 0 ∷ 0xffff0000ffff ∷ []) (0 ∷ 0 ∷ 0 ∷ 0 ∷ []) ∷
+    short s3 (counts 1 1 3) one ∷
+    works s4 (counts 0 1 1) one 8 0 0 (0xff00 ∷ []) (0 ∷ []) ∷
+    works s5 (counts 1 1 2) one 48 16 1 (0xffffffffffff0000 ∷ []) (0xcccccccc00000000 ∷ []) ∷
+    works s6 (counts 1 1 3) four 144 85 1 (0xfff0fff ∷ 0xffffffffffffffff ∷ 0xfff0fff ∷ 0xffffffff ∷ [])
     (0xd5d0d5d ∷ 0x5d5d5d5d5d5d5d5d ∷ 0xc4c0d5d ∷ 0x4c4c5d5d ∷ []) ∷
-    works (0x03 ∷ 0x00 ∷ []) one 4 4 1 (0xf ∷ []) (0xf ∷ []) ∷
-    refused (0x03 ∷ 0x0b ∷ []) one 10 0 ∷
+    works (0x03 ∷ 0x00 ∷ []) (counts 1 0 1) one 4 4 1 (0xf ∷ []) (0xf ∷ []) ∷
+    short (0x03 ∷ 0x0b ∷ []) (counts 12 0 12) one ∷
     refused (0x03 ∷ 0x0c ∷ []) one 4 0 ∷
     refused (0x03 ∷ 0x0b ∷ 0x10 ∷ 0x00 ∷ []) one 9 0 ∷
     refused (0x04 ∷ 0x00 ∷ []) one 5 0 ∷

@@ -52,7 +52,7 @@ readAt : ℕ → List ReadRow → List ℕ
 readAt i rs = getD rs i (record { sheet = []; read = []; lent = []; listed = []; left = [] }) .read
 
 judgedAt : ℕ → List Row → List ℕ
-judgedAt i rs = getD rs i (record { sheet = []; lent = []; opens = []; opened = []; settles = []; judges = []; judged = [] }) .judges
+judgedAt i rs = getD rs i (record { sheet = []; reads = []; lent = []; opens = []; opened = []; settles = []; judges = []; judged = [] }) .judges
 
 prints : (sheet : List ℕ) (t l c o s m : ℕ) → readSays (readKb limit sheet) ≡ 0 ∷ 0 ∷ t ∷ l ∷ c ∷ []
     → judgeSays (readKb limit sheet) lent ≡ 0 ∷ 0 ∷ o ∷ s ∷ m ∷ [] → printed sheet ≡ judgedLines t l c (0 ∷ 0 ∷ o ∷ s ∷ m ∷ [])
