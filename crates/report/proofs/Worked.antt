@@ -20,10 +20,10 @@ use Rattle.report.specs.Text.{text, decimalIn, decimal}
 use Rattle.report.specs.Lines.{refusedLine, countsLine, sizesLine, verdictLine, judgedLines, eveningLines, printed}
 use Rattle.report.proofs.Reporting.{lines-of}
 
-abbrev set4096 : List ℕ
+abbrev pub set4096 : List ℕ
 set4096 = replicate 4096 0
 
-many : length set4096 ≡ 4096
+pub many : length set4096 ≡ 4096
 many = length-replicate {A = ℕ} 4096 0
 
 -- ---- what judge says depends on the words by their number alone
@@ -37,7 +37,7 @@ enough k us ws h q =
     let f : held (kbView k) ≤ length ws = omega (arith, ltb-false (length us) (held (kbView k)) q) in
     le-ltb (length ws) (held (kbView k)) f
 
-more-words : (s : Reading) (us ws : List ℕ) → length us ≤ length ws → length (judgeSays s us) ≡ 5 → judgeSays s ws ≡ judgeSays s us
+pub more-words : (s : Reading) (us ws : List ℕ) → length us ≤ length ws → length (judgeSays s us) ≡ 5 → judgeSays s ws ≡ judgeSays s us
 unfolding judgeSays
 more-words (refusal n p) us ws h e = refl
 more-words (kb k) us ws h e = not-two (isShort k us) (isShort k ws) (10 ∷ 0 ∷ []) _ (enough k us ws h) refl e
@@ -45,13 +45,13 @@ more-words (kb k) us ws h e = not-two (isShort k us) (isShort k ws) (10 ∷ 0 �
 -- ---- S1, S2
 
 -- the words lent in the table of worked sheets
-abbrev lent : List ℕ
+abbrev pub lent : List ℕ
 lent = 0xffffffffffffffff ∷ 5 ∷ []
 
 readAt : ℕ → List ReadRow → List ℕ
 readAt i rs = getD rs i (record { sheet = []; read = []; lent = []; listed = []; left = [] }) .read
 
-judgedAt : ℕ → List Row → List ℕ
+unfoldable pub judgedAt : ℕ → List Row → List ℕ
 judgedAt i rs = getD rs i (record { sheet = []; reads = []; lent = []; opens = []; opened = []; settles = []; judges = []; judged = [] }) .judges
 
 prints : (sheet : List ℕ) (t l c o s m : ℕ) → readSays (readKb limit sheet) ≡ 0 ∷ 0 ∷ t ∷ l ∷ c ∷ []

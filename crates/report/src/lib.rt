@@ -11,7 +11,7 @@ use domino::JudgeAnswer;
 use tbox::ReadAnswer;
 
 // Puts a text into the buffer from a place on, and answers the place after it.
-pub(crate) fn put_text(out: &mut [u8], at: usize, text: &[u8]) -> usize
+pub fn put_text(out: &mut [u8], at: usize, text: &[u8]) -> usize
     requires { ⌜ at + length (now text) ≤ length (now out) ⌝ }
     ensures { λ r. ⌜ Puts (now (text .entry)) at (now (out .entry)) (now (out .exit)) r ⌝ }
 {
@@ -24,7 +24,7 @@ pub(crate) fn put_text(out: &mut [u8], at: usize, text: &[u8]) -> usize
 }
 
 // Puts a number in decimal digits; no number of 64 bits has more than 20.
-pub(crate) fn put_number(out: &mut [u8], at: usize, n: u64) -> usize
+pub fn put_number(out: &mut [u8], at: usize, n: u64) -> usize
     requires { ⌜ at + 20 ≤ length (now out) ⌝ }
     ensures { λ r. ⌜ Puts (decimal n) at (now (out .entry)) (now (out .exit)) r ⌝ }
     ensures { λ r. ⌜ r ≤ at + 20 ⌝ }
@@ -35,7 +35,7 @@ pub(crate) fn put_number(out: &mut [u8], at: usize, n: u64) -> usize
 }
 
 // Puts a text, then a number.
-pub(crate) fn put_labelled(out: &mut [u8], at: usize, label: &[u8], n: u64) -> usize
+pub fn put_labelled(out: &mut [u8], at: usize, label: &[u8], n: u64) -> usize
     requires { ⌜ at + length (now label) + 20 ≤ length (now out) ⌝ }
     ensures { λ r. ⌜ Puts (now (label .entry) ++ decimal n) at (now (out .entry)) (now (out .exit)) r ⌝ }
     ensures { λ r. ⌜ r ≤ at + length (now (label .entry)) + 20 ⌝ }

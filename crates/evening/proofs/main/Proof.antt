@@ -1,14 +1,14 @@
 -- What was read lies within the buffer. Assumes nothing.
-use Rattle.evening.proofs.Counts.{got}
+use Rattle.console.proofs.Counts.{got}
 use borrow.Author.Needs.{needs}
 use Rattle.evening.proofs.main.Statement.{statement}
 use Rattle.evening.proofs.main.Tie as tie
 
-slice-aggregate-read-all : tie.Need-slice-aggregate-read-all
-slice-aggregate-read-all c = search needs
+slice-aggregate-read-sheet : tie.Need-slice-aggregate-read-sheet
+slice-aggregate-read-sheet c = search needs
 
-read-all-requires : tie.Need-read-all-requires
-read-all-requires c κs = search needs
+read-sheet-requires : tie.Need-read-sheet-requires
+read-sheet-requires c κs = search needs
 
 enum-told : tie.Need-enum-told
 enum-told c = search needs
@@ -23,10 +23,10 @@ enum-known-input : tie.Need-enum-known-input
 enum-known-input c = search needs
 
 array-share-prefix-buffer : tie.Need-array-share-prefix-buffer
-array-share-prefix-buffer c = got _ _ _ (c .before .input .given .1) (c .before .before .before .before .read-all .ensures) .0
+array-share-prefix-buffer c = got _ _ _ (c .before .input .given .1) (c .before .before .before .before .read-sheet .ensures) .0
 
 slice-aggregate-print : tie.Need-slice-aggregate-print
-slice-aggregate-print c = got _ _ _ (c .before .before .input .given .1) (c .before .before .before .before .before .read-all .ensures) .1
+slice-aggregate-print c = got _ _ _ (c .before .before .input .given .1) (c .before .before .before .before .before .read-sheet .ensures) .1
 
 print-requires : tie.Need-print-requires
 print-requires c κs = search needs
@@ -41,8 +41,8 @@ pub main-spec : {M : Type 1} → statement M
 main-spec =
     tie.close
     (tie.spec
-    slice-aggregate-read-all
-    read-all-requires
+    slice-aggregate-read-sheet
+    read-sheet-requires
     enum-told
     slice-aggregate-complain
     complain-requires

@@ -1,14 +1,14 @@
 -- The invariant: what was read lies within the buffer, whose length stays. Assumes nothing.
 use borrow.Rule.Slice.PartMut.{same-len-mid, mid-len}
 use Rattle.io.proofs.Counting.{counts}
-use Rattle.evening.proofs.Counts.{got}
+use Rattle.console.proofs.Counts.{got}
 use Prim.Native.Nat.{_-_, _≤_}
 use mathlib.Core.Path.{_≡_, refl}
 use native.Mathlib.Omega.{arith}
 use borrow.Author.Needs.{needs}
 use lib.ListN.{length}
-use Rattle.evening.proofs.read_all.Statement.{statement}
-use Rattle.evening.proofs.read_all.Tie as tie
+use Rattle.console.proofs.read_all.Statement.{statement}
+use Rattle.console.proofs.read_all.Tie as tie
 
 abbrev Inv-loop : tie.InvT-loop
 Inv-loop buffer₀ done₀ buffer done = (done ≤ length buffer) × (length buffer ≡ length buffer₀)

@@ -1,0 +1,10 @@
+pub mod Alone
+pub mod Adding
+pub mod Cases
+pub mod Fitting
+pub mod Writing
+pub mod Intake
+pub mod Fronts
+pub mod Running
+pub mod Stepping
+pub mod Worked

@@ -1,0 +1,71 @@
+-- The invariant: the totals are those of slots that came. Each turn counts one more, of 4,096. Assumes nothing.
+use Rattle.queue.proofs.Stepping.{going-on}
+use Prim.Native.Nat.{_-_}
+use mathlib.Core.Path.{_≡_, refl, sym, subst}
+use native.Mathlib.Omega.{arith}
+use lib.ListN.{length}
+use borrow.Author.Needs.{needs}
+use Rattle.queue.specs.Lines.{most}
+use Rattle.queue.specs.Steps.{Reached}
+use Rattle.queue.proofs.Adding.{reached-none, reached-small}
+use Rattle.queue.proofs.serve.Statement.{statement}
+use Rattle.queue.proofs.serve.Tie as tie
+
+abbrev Inv-loop : tie.InvT-loop
+Inv-loop buffer₀ set₀ out₀ t₀ buffer set out t =
+    Reached t × (length buffer ≡ 768) × (length set ≡ 4096) × (length out ≡ length out₀)
+
+abbrev μ-loop : tie.MeasureT-loop
+μ-loop buffer₀ set₀ out₀ t₀ buffer set out t = most - t .sheets
+
+none-requires : tie.Need-none-requires Inv-loop μ-loop
+none-requires c κs = search needs
+
+loop-holds : tie.Need-loop-holds Inv-loop μ-loop
+loop-holds c =
+    let start = c .before .before .before .before .pre in
+    (subst Reached (sym (c .none .ensures)) reached-none, start .0, start .1, refl)
+
+turn-requires : tie.Need-turn-requires Inv-loop μ-loop
+turn-requires c κs = search needs
+
+same-length : tie.Need-same-length Inv-loop μ-loop
+same-length c = search needs
+
+same-length-2 : tie.Need-same-length-2 Inv-loop μ-loop
+same-length-2 c = search needs
+
+same-length-3 : tie.Need-same-length-3 Inv-loop μ-loop
+same-length-3 c = search needs
+
+returns : tie.Need-returns Inv-loop μ-loop
+returns c = search needs
+
+loop-less : tie.Need-loop-less Inv-loop μ-loop
+loop-less c =
+    let g = going-on _ (c .before .if1 .left) in
+    let turned = c .before .before .before .before .before .before .before .before .before .turn .ensures in
+    let e = turned .more g in
+    let s = reached-small _ (turned .reached g) .sheets in
+    omega arith
+
+loop-again : tie.Need-loop-again Inv-loop μ-loop
+loop-again c =
+    let turned = c .before .before .before .before .before .before .before .before .before .turn .ensures in
+    (turned .reached (going-on _ (c .before .if1 .left)), search needs, search needs, search needs)
+
+pub serve-spec : {M : Type 1} → statement M
+serve-spec =
+    tie.close
+    (tie.spec
+    Inv-loop
+    μ-loop
+    none-requires
+    loop-holds
+    turn-requires
+    same-length
+    same-length-2
+    same-length-3
+    returns
+    loop-less
+    loop-again)
