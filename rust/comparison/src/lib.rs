@@ -5,6 +5,7 @@ pub mod damage;
 pub mod dominoes;
 pub mod few_axioms;
 pub mod made_up;
+pub mod queues;
 pub mod random;
 pub mod reading;
 pub mod sequences;

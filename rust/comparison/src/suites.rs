@@ -9,7 +9,9 @@ use std::{env, fmt};
 /// Names a number that all counts of sheets are multiplied by.
 const FACTOR_VARIABLE: &str = "LODHRUSSI_FACTOR";
 
-fn times(count: u64) -> u64 {
+/// So many, or a multiple.
+#[must_use]
+pub fn times(count: u64) -> u64 {
     let factor = env::var(FACTOR_VARIABLE).ok();
     count * factor.and_then(|text| text.parse().ok()).unwrap_or(1)
 }

@@ -5,7 +5,8 @@
 //! The bytes of a knowledge base are called a sheet. [`read`] checks a sheet
 //! and counts; [`list_marks`] also lists the parts of the flattened knowledge
 //! base. Neither allocates. [`open`], [`strike`], [`settle`] and [`judge`] go
-//! through all dominoes, with the definitions applied as they stand.
+//! through all dominoes, with the definitions applied as they stand. [`queue`]
+//! judges the sheets of a queue (document 02, N1).
 
 mod calls;
 mod conditions;
@@ -15,6 +16,7 @@ mod kb;
 
 pub mod domino;
 pub mod flat;
+pub mod queue;
 pub mod written;
 
 #[cfg(test)]
