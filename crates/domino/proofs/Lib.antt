@@ -17,6 +17,7 @@ pub mod Leaving
 pub mod Joining
 pub mod Answering
 pub mod Saying
+pub mod Judged
 pub mod Demand1
 pub mod Demand2
 pub mod Demand3

@@ -12,7 +12,8 @@ use Rattle.tbox.specs.Examples.{s1, s2}
 use Rattle.domino.specs.Answers.{judgeSays}
 use Rattle.domino.proofs.Worked.{rows-right}
 use Rattle.report.specs.Text.{text, decimalIn, decimal}
-use Rattle.report.proofs.Worked.{set4096, many, more-words, lent, judgedAt}
+use Rattle.domino.proofs.Judged.{more-words}
+use Rattle.report.proofs.Worked.{set4096, many, lent, judgedAt}
 use Rattle.queue.specs.declared.slots.SlotAnswer.{SlotAnswer}
 use Rattle.queue.specs.declared.slots.SlotAnswer.the-variants.{Met, Unmet, Refused}
 use Rattle.queue.specs.Queue.{answerOf, alone, lengthIn, sheetIn, slotSays, slotFirst, endFirst, slotFor, slotsLaid, laid, Whole, Fit}

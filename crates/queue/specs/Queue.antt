@@ -5,6 +5,7 @@ use mathlib.Core.Bool.{Bool, true, false, _&&_, cond}
 use mathlib.Core.List.{List, [], _∷_, _++_}
 use lib.Dec.{eqb, ltb}
 use lib.ListN.{length, getD, take, drop, replicate}
+use Rattle.tbox.specs.Bounds.{All}
 use Rattle.tbox.specs.Reading.{readKb}
 use Rattle.tbox.specs.Answers.{limit}
 use Rattle.domino.specs.Answers.{judgeSays}
@@ -83,13 +84,11 @@ laid slots = slotsLaid slots ++ (0x31 ∷ [])
 
 -- each slot has 767 bytes
 abbrev pub Whole : List (List ℕ) → Type 0
-Whole [] = Unit {0}
-Whole (slot ∷ rest) = (length slot ≡ 767) × Whole rest
+Whole slots = All (λ slot. length slot ≡ 767) slots
 
 -- each sheet fits a slot
 abbrev pub Fit : List (List ℕ) → Type 0
-Fit [] = Unit {0}
-Fit (sheet ∷ rest) = (length sheet ≤ 765) × Fit rest
+Fit sheets = All (λ sheet. length sheet ≤ 765) sheets
 
 -- ---- "exact totals, sheets counting every slot, survivors summed"
 

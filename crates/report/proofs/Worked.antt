@@ -15,6 +15,7 @@ use Rattle.tbox.proofs.Worked.{rows-right as reads-right}
 use Rattle.semantics.specs.Views.{kbView}
 use Rattle.domino.specs.Answers.{held, isShort, judgeSays}
 use Rattle.domino.specs.Examples.{Row}
+use Rattle.domino.proofs.Judged.{more-words, judge-short}
 use Rattle.domino.proofs.Worked.{rows-right}
 use Rattle.report.specs.Text.{text, decimalIn, decimal}
 use Rattle.report.specs.Lines.{refusedLine, countsLine, sizesLine, verdictLine, judgedLines, eveningLines, printed}
@@ -25,22 +26,6 @@ set4096 = replicate 4096 0
 
 pub many : length set4096 ≡ 4096
 many = length-replicate {A = ℕ} 4096 0
-
--- ---- what judge says depends on the words by their number alone
-
-not-two : (a b : Bool) (x y : List ℕ) → (a ≡ false → b ≡ false) → length x ≡ 2 → length (cond a x y) ≡ 5 → cond b x y ≡ cond a x y
-not-two true b x y h two five = absurd (omega arith)
-not-two false b x y h two five = ap (λ (c : Bool). cond c x y) (h refl)
-
-enough : (k : Kb) (us ws : List ℕ) → length us ≤ length ws → isShort k us ≡ false → isShort k ws ≡ false
-enough k us ws h q =
-    let f : held (kbView k) ≤ length ws = omega (arith, ltb-false (length us) (held (kbView k)) q) in
-    le-ltb (length ws) (held (kbView k)) f
-
-pub more-words : (s : Reading) (us ws : List ℕ) → length us ≤ length ws → length (judgeSays s us) ≡ 5 → judgeSays s ws ≡ judgeSays s us
-unfolding judgeSays
-more-words (refusal n p) us ws h e = refl
-more-words (kb k) us ws h e = not-two (isShort k us) (isShort k ws) (10 ∷ 0 ∷ []) _ (enough k us ws h) refl e
 
 -- ---- S1, S2
 
@@ -88,11 +73,11 @@ module _ (k : Kb) where
   taken = length (partsOf k) + k .roles
 
   pub ten-short : 10 ≤ taken → eveningLines (kb k) set4096 ≡ refusedLine 10 0
-  unfolding eveningLines judgedLines judgeSays
+  unfolding eveningLines judgedLines
   ten-short h =
       let p = pow-le-pow-right {n = 2} (omega arith) {i = 20} {j = 2 * length (partsOf k) + 2 * k .roles} (omega arith) in
       let f : length set4096 < held (kbView k) = omega (arith, many) in
-      rw (lt-ltb (length set4096) (held (kbView k)) f)
+      rw (judge-short k set4096 (lt-ltb (length set4096) (held (kbView k)) f))
 
   pub nine-enough : taken ≤ 9 → isShort k set4096 ≡ false
   nine-enough h =
