@@ -54,6 +54,7 @@ fn ends(input: &[u8]) -> bool
     input[0] == 0x31
 }
 
+// Judges the slot in front and puts its line, or puts the last line. Of the input no more is looked at than `wanted` says.
 pub(crate) fn step(t: Totals, input: &[u8], set: &mut [u64], out: &mut [u8]) -> Stepped
     requires { ⌜ Reached t × (length (now set) ≡ 4096) × (160 ≤ length (now out)) ⌝ }
     ensures { λ r. ⌜ Steps t (now (input .entry)) (now (set .entry)) (now (set .exit)) (now (out .entry)) (now (out .exit)) r ⌝ }
