@@ -3,7 +3,9 @@ use Prim.Native.Nat.{ℕ, _+_, _≤_, _<_}
 use mathlib.Core.Path.{_≡_, refl, sym, ap, subst, _∙_}
 use mathlib.Core.Bool.{Bool, true, false, not, false≢true, and-eq-true-iff}
 use mathlib.Core.List.{List}
+use mathlib.Core.Logic.{_⊎_, inl, inr}
 use lib.Dec.{ltb}
+use lib.ListN.{take}
 use borrow.Author.Tests.{ltb-true}
 use Rattle.report.specs.Text.{Puts}
 use Rattle.queue.specs.declared.slots.SlotAnswer.{SlotAnswer}
@@ -12,7 +14,7 @@ use Rattle.queue.specs.declared.steps.Stepped.{Stepped}
 use Rattle.queue.specs.declared.Turned.{Turned}
 use Rattle.queue.specs.Queue.{slotFirst, slotOf, slotSays, endFirst, survivorsIn}
 use Rattle.queue.specs.Lines.{slotLine, lastLine, most}
-use Rattle.queue.specs.Steps.{added, takes, stepTotals, stepPrints, stepLeaves, Reached, JudgesSlot, Steps, Turns}
+use Rattle.queue.specs.Steps.{added, takes, stepTotals, stepPrints, stepLeaves, Reached, JudgesSlot, Steps, Took, Turns}
 use Rattle.queue.proofs.Alone.{slot-survivors}
 use Rattle.queue.proofs.Adding.{reached-added}
 
@@ -57,20 +59,22 @@ module _ (t : Totals) (input words left before after : List ℕ) (r : Stepped) (
   unfolding stepTotals
   took h = s .totals ∙ rw (sym (s .going) ∙ h) refl
 
-  -- going on only if the line was printed too
-  pub turned : (going : Bool) → (going ≡ true → r .going ≡ true) → Reached t → Turns t (record { totals = r .totals; going = going })
-  turned going f reached =
-      record {
-        reached = λ g.
-            subst Reached (sym (took (f g)))
-            (reached-added t (slotOf input) reached (takes-early t input (sym (s .going) ∙ f g)));
-        more = λ g. ap (λ (u : Totals). u .sheets) (took (f g)) ∙ unfold added in refl;
-      }
+-- so does a turn, and what it leads to is reached
+module _ (t : Totals) (buffer words left before after : List ℕ) (r : Turned) (reached : Reached t) where
+  on : Took t buffer words left before after r → r .going ≡ true → (Reached (r .totals)) × (r .totals .sheets ≡ t .sheets + 1)
+  on turn g =
+      let input = take (turn .count) buffer in
+      let s = turn .step in
+      let h : turn .stepped .going ≡ true = and-eq-true-iff (turn .stepped .going) (turn .printed) .0 (sym (turn .going) ∙ g) .0 in
+      let e = turn .totals ∙ took t input words left before after (turn .stepped) s h in (
+        subst Reached (sym e) (reached-added t (slotOf input) reached (takes-early t input (sym (s .going) ∙ h))),
+        ap (λ (u : Totals). u .sheets) e ∙ unfold added in refl,
+      )
+
+  pub turned : Turns t buffer words left before after r → r .going ≡ true → (Reached (r .totals)) × (r .totals .sheets ≡ t .sheets + 1)
+  turned (inl turn) g = on turn g
+  turned (inr failed) g = absurd (false≢true (sym (failed .going) ∙ g))
 
 pub going-on : (b : Bool) → not b ≡ false → b ≡ true
 going-on true e = refl
 going-on false e = sym e
-
--- a turn that has no more to come
-pub stopped : (t u : Totals) → Turns t (record { totals = u; going = false })
-stopped t u = record { reached = λ g. absurd (false≢true g); more = λ g. absurd (false≢true g) }

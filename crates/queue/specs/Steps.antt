@@ -1,7 +1,8 @@
 -- The program's steps: each takes the front of the input and prints a line. Assumes nothing: these are definitions.
 use Prim.Native.Nat.{ℕ, zero, suc, _+_, _*_, _≤_}
 use mathlib.Core.Path.{_≡_}
-use mathlib.Core.Bool.{Bool, true, _&&_, cond}
+use mathlib.Core.Bool.{Bool, false, _&&_, cond}
+use mathlib.Core.Logic.{_⊎_}
 use mathlib.Core.List.{List, [], _++_, map}
 use lib.Dec.{eqb, ltb}
 use lib.ListN.{length, take, drop}
@@ -98,7 +99,22 @@ pub record Steps (t : Totals) (input words left before after : List ℕ) (r : St
   pub line : Puts (stepPrints t input) 0 before after (r .written)
   pub set : left ≡ stepLeaves t input words
 
--- a turn of the program: if there is more to come, one slot more came
-pub record Turns (t : Totals) (r : Turned) : Type 0 where
-  pub reached : r .going ≡ true → Reached (r .totals)
-  pub more : r .going ≡ true → r .totals .sheets ≡ t .sheets + 1
+-- a turn of the program, by what is in its buffers: a step on the bytes read, whose line is printed, if it can be
+pub record Took (t : Totals) (buffer words left before after : List ℕ) (r : Turned) : Type 0 where
+  pub count : ℕ
+  pub read : Counts count buffer × (count ≤ wanted (t .sheets) (kindOf buffer))
+  pub stepped : Stepped
+  pub step : Steps t (take count buffer) words left before after stepped
+  pub totals : r .totals ≡ stepped .totals
+  pub printed : Bool
+  pub going : r .going ≡ (stepped .going && printed)
+
+-- or a read failed, and it is the last
+pub record Unread (t : Totals) (words left before after : List ℕ) (r : Turned) : Type 0 where
+  pub totals : r .totals ≡ t
+  pub going : r .going ≡ false
+  pub set : left ≡ words
+  pub line : after ≡ before
+
+abbrev pub Turns : Totals → List ℕ → List ℕ → List ℕ → List ℕ → List ℕ → Turned → Type 0
+Turns t buffer words left before after r = Took t buffer words left before after r ⊎ Unread t words left before after r

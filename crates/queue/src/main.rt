@@ -64,7 +64,7 @@ fn print(line: &[u8]) -> bool {
 // Reads a step's input, takes the step and prints its line.
 fn turn(t: Totals, buffer: &mut [u8], set: &mut [u64], out: &mut [u8]) -> Turned
     requires { ⌜ Reached t × (length (now buffer) ≡ 768) × (length (now set) ≡ 4096) × (160 ≤ length (now out)) ⌝ }
-    ensures { λ r. ⌜ Turns t r ⌝ }
+    ensures { λ r. ⌜ Turns t (now (buffer .exit)) (now (set .entry)) (now (set .exit)) (now (out .entry)) (now (out .exit)) r ⌝ }
 {
     let input = read_step(buffer, t.sheets);
     match input {

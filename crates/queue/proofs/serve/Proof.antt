@@ -1,5 +1,5 @@
 -- The invariant: the totals are those of slots that came. Each turn counts one more, of 4,096. Assumes nothing.
-use Rattle.queue.proofs.Stepping.{going-on}
+use Rattle.queue.proofs.Stepping.{turned, going-on}
 use Prim.Native.Nat.{_-_}
 use mathlib.Core.Path.{_≡_, refl, sym, subst}
 use native.Mathlib.Omega.{arith}
@@ -43,16 +43,19 @@ returns c = search needs
 
 loop-less : tie.Need-loop-less Inv-loop μ-loop
 loop-less c =
-    let g = going-on _ (c .before .if1 .left) in
-    let turned = c .before .before .before .before .before .before .before .before .before .turn .ensures in
-    let e = turned .more g in
-    let s = reached-small _ (turned .reached g) .sheets in
+    let start = c .before .before .before .before .before .before .before .before .before .before .before .before .before .loop in
+    let turn = c .before .before .before .before .before .before .before .before .before .turn .ensures in
+    let next = turned _ _ _ _ _ _ _ (start .inv .0) turn (going-on _ (c .before .if1 .left)) in
+    let e = next .1 in
+    let s = reached-small _ (next .0) .sheets in
     omega arith
 
 loop-again : tie.Need-loop-again Inv-loop μ-loop
 loop-again c =
-    let turned = c .before .before .before .before .before .before .before .before .before .turn .ensures in
-    (turned .reached (going-on _ (c .before .if1 .left)), search needs, search needs, search needs)
+    let start = c .before .before .before .before .before .before .before .before .before .before .before .before .before .loop in
+    let turn = c .before .before .before .before .before .before .before .before .before .turn .ensures in
+    let next = turned _ _ _ _ _ _ _ (start .inv .0) turn (going-on _ (c .before .if1 .left)) in
+    (next .0, search needs, search needs, search needs)
 
 pub serve-spec : {M : Type 1} → statement M
 serve-spec =

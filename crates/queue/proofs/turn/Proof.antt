@@ -1,9 +1,11 @@
--- If there is more to come, the step took a slot. Assumes nothing.
+-- A step on what was read, or a read that failed. Assumes nothing.
+use mathlib.Core.Path.{refl, sym, ap, _∙_}
+use mathlib.Core.Bool.{Bool, _&&_}
+use mathlib.Core.Logic.{inl, inr}
 use Rattle.report.proofs.Putting.{puts-length}
 use Rattle.io.proofs.Counting.{front}
 use native.Mathlib.Omega.{arith}
 use Rattle.queue.proofs.Intake.{got-step}
-use Rattle.queue.proofs.Stepping.{turned, stopped}
 use borrow.Author.Needs.{needs}
 use Rattle.queue.proofs.turn.Statement.{statement}
 use Rattle.queue.proofs.turn.Tie as tie
@@ -51,7 +53,7 @@ same-length : tie.Need-same-length
 same-length c = search needs
 
 returns : tie.Need-returns
-returns c = stopped _ _
+returns c = inr (record { totals = refl; going = refl; set = refl; line = refl })
 
 same-length-2 : tie.Need-same-length-2
 same-length-2 c = search needs
@@ -64,9 +66,19 @@ same-length-4 c = search needs
 
 returns-2 : tie.Need-returns-2
 returns-2 c =
-    let stepped = c .before .before .before .before .before .before .before .before in
-    let start = stepped .before .before .before .before .before .before .before .before .before .before .before .before .before .before in
-    turned _ _ _ _ _ _ _ (stepped .step .ensures) _ (λ g. c .if1 .taken) (start .pre .0)
+    let told = c .before .before .before .before .before .before .before .before .before .before .before .before .before in
+    let stepped = c .before .before .before .before .before .before .before .before .step in
+    let printed = c .before .before .print .result in
+    inl
+    (record {
+      count = _;
+      read = got-step _ _ _ _ (told .input .given .1) (told .before .before .before .before .read-step .ensures);
+      stepped = stepped .result;
+      step = stepped .ensures;
+      totals = refl;
+      printed = printed;
+      going = sym (ap (λ (b : Bool). b && printed) (c .if1 .taken));
+    })
 
 same-length-5 : tie.Need-same-length-5
 same-length-5 c = search needs
@@ -79,9 +91,19 @@ same-length-7 c = search needs
 
 returns-3 : tie.Need-returns-3
 returns-3 c =
-    let stepped = c .before .before .before .before .before .before .before .before in
-    let start = stepped .before .before .before .before .before .before .before .before .before .before .before .before .before .before in
-    turned _ _ _ _ _ _ _ (stepped .step .ensures) _ (λ g. g) (start .pre .0)
+    let told = c .before .before .before .before .before .before .before .before .before .before .before .before .before in
+    let stepped = c .before .before .before .before .before .before .before .before .step in
+    let printed = c .before .before .print .result in
+    inl
+    (record {
+      count = _;
+      read = got-step _ _ _ _ (told .input .given .1) (told .before .before .before .before .read-step .ensures);
+      stepped = stepped .result;
+      step = stepped .ensures;
+      totals = refl;
+      printed = printed;
+      going = c .if1 .left ∙ sym (ap (λ (b : Bool). b && printed) (c .if1 .left));
+    })
 
 pub turn-spec : {M : Type 1} → statement M
 turn-spec =

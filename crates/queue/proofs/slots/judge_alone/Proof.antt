@@ -30,7 +30,8 @@ same-length-2 c = search needs
 returns-2 : tie.Need-returns-2
 returns-2 c =
     let start = c .before .before .before .before .before .before .before .before .before .before in
-    alone-met _ _ _ _ (start .pre) (c .before .before .before .before .before .before .judge .ensures) _ _ _ (c .before .before .answer2 .given .1) (c .if1 .taken)
+    let judged = c .before .before .before .before .before .before .judge .ensures in
+    alone-met _ _ _ _ (start .pre) judged _ _ _ (c .before .before .answer2 .given .1) (c .if1 .taken)
 
 same-length-3 : tie.Need-same-length-3
 same-length-3 c = search needs
@@ -38,7 +39,8 @@ same-length-3 c = search needs
 returns-3 : tie.Need-returns-3
 returns-3 c =
     let start = c .before .before .before .before .before .before .before .before .before .before in
-    alone-unmet _ _ _ _ (start .pre) (c .before .before .before .before .before .before .judge .ensures) _ _ _ (c .before .before .answer2 .given .1) (c .if1 .left)
+    let judged = c .before .before .before .before .before .before .judge .ensures in
+    alone-unmet _ _ _ _ (start .pre) judged _ _ _ (c .before .before .answer2 .given .1) (c .if1 .left)
 
 pub judge-alone-spec : {M : Type 1} → statement M
 judge-alone-spec =

@@ -45,7 +45,8 @@ returns c =
     let test = judged .before .before .before in
     let start = test .before .before .before .before .before in
     let whole = sym (test .before .takes .ensures) ∙ test .if1 .taken in
-    step-slot (start .args .t) _ _ _ _ _ _ _ _ whole (judged .judge-slot .ensures) (c .before .before .before .put-slot .ensures) (c .add .ensures)
+    let put = c .before .before .before .put-slot .ensures in
+    step-slot (start .args .t) _ _ _ _ _ _ _ _ whole (judged .judge-slot .ensures) put (c .add .ensures)
 
 ends-requires : tie.Need-ends-requires
 ends-requires c κs = search needs
