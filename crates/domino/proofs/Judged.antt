@@ -5,9 +5,9 @@ use mathlib.Core.Bool.{Bool, true, false, cond}
 use mathlib.Core.List.{List, [], _∷_}
 use mathlib.Core.Logic.{_⊎_, inl, inr}
 use native.Mathlib.Omega.{arith}
-use lib.Dec.{eqb, ltb}
+use lib.Dec.{eqb}
 use lib.ListN.{length}
-use borrow.Author.Tests.{lt-ltb, le-ltb, ltb-false}
+use borrow.Author.Tests.{le-ltb, ltb-false}
 use Rattle.bitset.specs.Bits.{size}
 use Rattle.bitset.proofs.Sizes.{size-le}
 use Rattle.tbox.specs.Reading.{Kb, Reading, refusal, kb}

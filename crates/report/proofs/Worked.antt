@@ -1,13 +1,13 @@
 -- What the evening program prints for S1, S2 and a refused sheet is what document 01 has, byte for byte; and with 4,096 words
 -- "c + L of 10 to 12 is refused with 10". Assumes nothing.
 use Prim.Native.Nat.{ℕ, _+_, _*_, _≤_, _<_}
-use mathlib.Core.Path.{_≡_, refl, sym, ap, _∙_}
-use mathlib.Core.Bool.{Bool, true, false, cond}
-use mathlib.Core.List.{List, [], _∷_, _++_}
+use mathlib.Core.Path.{_≡_, sym, ap, _∙_}
+use mathlib.Core.Bool.{false}
+use mathlib.Core.List.{List, [], _∷_}
 use native.Mathlib.Nat.{pow-le-pow-right}
 use native.Mathlib.Omega.{arith}
 use lib.ListN.{length, getD, replicate, length-replicate}
-use borrow.Author.Tests.{lt-ltb, le-ltb, ltb-false}
+use borrow.Author.Tests.{lt-ltb, le-ltb}
 use Rattle.tbox.specs.Reading.{Kb, Reading, refusal, kb, partsOf, readKb}
 use Rattle.tbox.specs.Answers.{limit, readSays}
 use Rattle.tbox.specs.Examples.{Row as ReadRow, s1, s2}

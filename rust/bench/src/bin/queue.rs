@@ -121,24 +121,30 @@ impl Judged {
     }
 }
 
-fn by_product(sheets: &[Vec<u8>]) -> Judged {
+/// Judges all sheets with the same words, by what answers the survivors of one
+/// and whether it is met.
+fn judged(sheets: &[Vec<u8>], judge: impl Fn(&[u8], &mut [u64]) -> (u64, bool)) -> Judged {
     let mut set = vec![0; WORDS];
     let mut judged = Judged::default();
     for sheet in sheets {
-        let judgement = lodhrussi::judge(sheet, &mut set).expect("the product judges the sheet");
-        judged.add(judgement.survivors, judgement.met);
+        let (survivors, met) = judge(sheet, &mut set);
+        judged.add(survivors, met);
     }
     judged
 }
 
+fn by_product(sheets: &[Vec<u8>]) -> Judged {
+    judged(sheets, |sheet, set| {
+        let judgement = lodhrussi::judge(sheet, set).expect("the product judges the sheet");
+        (judgement.survivors, judgement.met)
+    })
+}
+
 fn by_plain(sheets: &[Vec<u8>]) -> Judged {
-    let mut set = vec![0; WORDS];
-    let mut judged = Judged::default();
-    for sheet in sheets {
-        let judgement = plain::judge(sheet, &mut set).expect("the plain engine judges the sheet");
-        judged.add(judgement.survivors, judgement.met);
-    }
-    judged
+    judged(sheets, |sheet, set| {
+        let judgement = plain::judge(sheet, set).expect("the plain engine judges the sheet");
+        (judgement.survivors, judgement.met)
+    })
 }
 
 /// Runs an evening program for each sheet.
