@@ -11,7 +11,7 @@
  *
  * Results. Every call returns the number of its refusal, 0 for done.
  *   *place is written on a refusal and only then: the byte where the offending record starts for 1 to 8, and 0 otherwise.
- *   The other numbers (*traits, *size, *verdict, ..) are written when done and only then.
+ *   The other numbers (*traits, *size, *verdict, ..) are written when done and only then; *condition only when struck.
  *   A refusal writes nothing to a list or a set, save 13, which leaves the set settled.
  *
  * Refusals. A sheet is read record by record and the first fault is reported; inside a record in this order:
@@ -76,11 +76,18 @@ uint64_t lodhrussi_open(const uint8_t *sheet, size_t n, uint64_t *set, size_t wo
 
 /*
  * Strike. Answers a verdict on the pairing of this number, in a set of any contents: 0 Absent, not in the set; 1 Struck, in it and
- * loose, and now out; 2 Kept, in it and not loose. All other bits of the set stay.
+ * loose, and now out; 2 Kept, in it and not loose. All other bits of the set stay. When struck, and only then, *condition is the
+ * number of the first condition that failed:
+ *    1  kb      the left side breaks a rule of the sheet
+ *    2  ex      the left side lacks a 'some' claim that the right side meets
+ *    3  uni     the right side breaks an 'only' claim of the left side
+ *    4  delex   a partner for a 'some' claim is missing
+ *    5  deluni  the left side lacks an 'only' claim, and a partner that would break it is missing
+ *    6  sym     its mirror image is missing
  * Refuses: as read does, then 10, then 11.
  */
 uint64_t lodhrussi_strike(const uint8_t *sheet, size_t n, uint64_t *set, size_t words, uint64_t number, uint64_t *place,
-                          uint64_t *verdict);
+                          uint64_t *verdict, uint64_t *condition);
 
 /*
  * Settle. Leaves the largest subset of the set that has nothing loose, and answers how many pairings that is.

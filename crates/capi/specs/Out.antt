@@ -15,6 +15,6 @@ placeOut (n ∷ []) before = before
 placeOut (n ∷ p ∷ []) before = p
 placeOut (n ∷ p ∷ v ∷ vs) before = before
 
--- value i afterwards: written when done, else as it was before
+-- value i afterwards: written if the call says it, else as it was before. A refusal says none, and strike a condition only when struck
 abbrev pub valueOut : ℕ → List ℕ → ℕ → ℕ
 valueOut i says before = getD says (2 + i) before

@@ -1,9 +1,10 @@
 // The functions for C and Rust: numbers and slices only, each a thin call. Each answers the refusal's number, 0 for done; a
 // refusal writes its place, a call that is done its values.
 ghost use mathlib.Core.Path.{_≡_};
+ghost use lib.ListN.{getD};
 ghost use Rattle.tbox.specs.Reading.{readKb};
 ghost use Rattle.tbox.specs.Answers.{limit, readSays, listSays, listLeaves};
-ghost use Rattle.domino.specs.Answers.{openSays, strikeSays, settleSays, judgeSays, verdictNumber};
+ghost use Rattle.domino.specs.Answers.{openSays, strikeSays, settleSays, judgeSays, verdictNumbers};
 ghost use Rattle.domino.specs.Answers.{openLeaves, strikeLeaves, settleLeaves, judgeLeaves};
 ghost use Rattle.capi.specs.Out.{resultOut, placeOut, valueOut};
 use domino::JudgeAnswer;
@@ -87,17 +88,26 @@ pub extern "C" fn lodhrussi_open(
     }
 }
 
-fn verdict_number(v: Verdict) -> u64
-    ensures { λ r. ⌜ r ≡ verdictNumber v ⌝ }
+// A verdict's number, 0 Absent, 1 Struck, 2 Kept; and, when struck, the condition.
+fn put_verdict(v: Verdict, verdict: &mut u64, condition: &mut u64)
+    ensures { λ _. ⌜ now (verdict .exit) ≡ getD (verdictNumbers v) 0 (now (verdict .entry)) ⌝ }
+    ensures { λ _. ⌜ now (condition .exit) ≡ getD (verdictNumbers v) 1 (now (condition .entry)) ⌝ }
 {
     match v {
-        Verdict::Absent => 0,
-        Verdict::Struck => 1,
-        Verdict::Kept => 2,
+        Verdict::Absent => {
+            *verdict = 0;
+        }
+        Verdict::Struck(k) => {
+            *verdict = 1;
+            *condition = k as u64;
+        }
+        Verdict::Kept => {
+            *verdict = 2;
+        }
     }
 }
 
-// Strike: the verdict on one domino, 0 Absent, 1 Struck, 2 Kept.
+// Strike: the verdict on one domino, and the condition that a struck one failed.
 #[no_mangle]
 pub extern "C" fn lodhrussi_strike(
     sheet: &[u8],
@@ -105,10 +115,12 @@ pub extern "C" fn lodhrussi_strike(
     number: u64,
     place: &mut u64,
     verdict: &mut u64,
+    condition: &mut u64,
 ) -> u64
     ensures { λ r. ⌜ r ≡ resultOut (strikeSays (readKb limit (now (sheet .entry))) number (now (set .entry))) ⌝ }
     ensures { λ _. ⌜ now (place .exit) ≡ placeOut (strikeSays (readKb limit (now (sheet .entry))) number (now (set .entry))) (now (place .entry)) ⌝ }
     ensures { λ _. ⌜ now (verdict .exit) ≡ valueOut 1 (strikeSays (readKb limit (now (sheet .entry))) number (now (set .entry))) (now (verdict .entry)) ⌝ }
+    ensures { λ _. ⌜ now (condition .exit) ≡ valueOut 2 (strikeSays (readKb limit (now (sheet .entry))) number (now (set .entry))) (now (condition .entry)) ⌝ }
     ensures { λ _. ⌜ now (set .exit) ≡ strikeLeaves (readKb limit (now (sheet .entry))) number (now (set .entry)) ⌝ }
 {
     let a = domino::strike(sheet, set, number as usize);
@@ -119,7 +131,7 @@ pub extern "C" fn lodhrussi_strike(
         }
         StrikeAnswer::Tried(o) => {
             let v = o.verdict;
-            *verdict = verdict_number(v);
+            put_verdict(v, verdict, condition);
             0
         }
     }

@@ -24,7 +24,7 @@ use Rattle.domino.specs.declared.SettleAnswer.the-variants.{Refused as N
 use Rattle.domino.specs.declared.JudgeAnswer.the-variants.{Refused as NotJudged, Judged}
 use Rattle.domino.specs.Tables.{view, Enough, partsIn}
 use Rattle.domino.specs.Answers.{openNumbers, openSays, openLeaves, Opens, OpensSet, settleNumbers, settleSays, settleLeaves, Settles, SettlesSet}
-use Rattle.domino.specs.Answers.{verdictNumber, strikeNumbers, strikeSays, strikeLeaves, Strikes, StrikesSet}
+use Rattle.domino.specs.Answers.{verdictNumbers, strikeNumbers, strikeSays, strikeLeaves, Strikes, StrikesSet}
 use Rattle.domino.specs.Answers.{isShort, judgeNumbers, judgeSays, judgeLeaves, Judges, JudgesSet}
 use Rattle.domino.proofs.Joining.{Agree, base-sized, base-agrees, opens-agree, strikes-agree, settles-agree, judges-agree}
 
@@ -129,7 +129,7 @@ module _ (sheet : List ℕ) (r : Loaded) (l : Loads sheet r) (z : r .fault ≡ 0
           let a = strikes-agree _ (kbView k) agrees (rw q g) o in
           let y : ltb i (dominoes (kbView k)) ≡ true = lt-ltb i _ (subst (λ (x : ℕ). i < x) total-same g) in
           as-read (λ s. Strikes s i ws vs (Tried x)) (record {
-            answer = rw (not-short h, y) (ap₂ (λ (y : ℕ) (u : Verdict). 0 ∷ 0 ∷ y ∷ verdictNumber u ∷ []) (a .number) (a .verdict));
+            answer = rw (not-short h, y) (ap₂ (λ (y : ℕ) (u : Verdict). 0 ∷ 0 ∷ y ∷ verdictNumbers u) (a .number) (a .verdict));
             set = rw (not-short h) (a .set);
           })
 

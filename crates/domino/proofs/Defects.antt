@@ -8,8 +8,9 @@ use lib.Dec.{eqb}
 use borrow.Author.Tests.{eq-eqb, ne-eqb, not-true, not-false}
 use Rattle.bitset.specs.Bits.{Set, look}
 use Rattle.semantics.specs.Dominoes.{Domino, total, leftOf, rolesOf, rightOf, inverse, number, numbered}
-use Rattle.semantics.specs.Conditions.{View, kb, ex, uni, witness, delex, deluni, sym, defect, defectAt}
+use Rattle.semantics.specs.Conditions.{View, kb, ex, uni, witness, delex, deluni, sym, defectAt}
 use Rattle.semantics.proofs.Numbers.{domino-of}
+use Rattle.semantics.proofs.Defects.{defect-cases}
 use Rattle.domino.specs.Tables.{view, Room, Row}
 use Rattle.domino.specs.Polarity.{asks, breaks, fits, wants, found, witnessed, rowDefect}
 use Rattle.domino.specs.declared.conditions.Parts.{Parts}
@@ -32,7 +33,7 @@ first-is true true true true true m = refl
 defect-is : (v : View) (S : Set) (n a r b : ℕ) → At (v .parts) (v .roles) n a r b
     → firstOf (v .good a) (fits v true a r b) (fits v false a r b) (rowDefect v (numbered (v .parts) (v .roles) S) a)
     (S (number (v .parts) (v .roles) b (inverse (v .roles) r) a)) ≡ defectAt v S n
-unfolding defectAt defect kb sym rowDefect numbered
+unfolding defectAt kb sym rowDefect numbered
 defect-is v S n a r b t =
     rw (
       t .left,
@@ -44,7 +45,8 @@ defect-is v S n a r b t =
       witnessed-deluni v (numbered (v .parts) (v .roles) S) a,
     )
     (first-is (v .good a) (ex v a r b) (uni v a r b) (delex v (numbered (v .parts) (v .roles) S) a)
-    (deluni v (numbered (v .parts) (v .roles) S) a) (S (number (v .parts) (v .roles) b (inverse (v .roles) r) a)))
+    (deluni v (numbered (v .parts) (v .roles) S) a) (S (number (v .parts) (v .roles) b (inverse (v .roles) r) a))
+    ∙ flip (defect-cases v (numbered (v .parts) (v .roles) S) a r b))
 
 pub at-of : (c l n a r b : ℕ) → a ≡ leftOf c l n → r ≡ rolesOf c l n → b ≡ rightOf c n → At c l n a r b
 at-of c l n a r b e f g = record { left = flip e; roles = flip f; right = flip g }
@@ -86,11 +88,11 @@ module _ (p : Parts) (role good : List ℕ) (S : Set) (n a r b : ℕ) (t : At (p
               hy ∙ ap S (hm ∙ ap (λ (x : ℕ). number (p .count) (p .roles) b x a) hq) in
               rw (← first d hd, eq-eqb d 0 kd, ← e)
 
-          pub fails-6 : not y ≡ true → 6 ≡ defectAt (view p role good) S n
-          fails-6 k = rw (← last, not-true y k)
+          pub fails-none : y ≡ true → 0 ≡ defectAt (view p role good) S n
+          fails-none k = rw (← last, k)
 
-          pub fails-none : not y ≡ false → 0 ≡ defectAt (view p role good) S n
-          fails-none k = rw (← last, not-false y k)
+          pub fails-6 : y ≡ false → 6 ≡ defectAt (view p role good) S n
+          fails-6 k = rw (← last, k)
 
 -- ---- what the tests ask
 module _ (p : Parts) (n a r b words : ℕ) (o : Room p words × (n < total (p .count) (p .roles))) (t : At (p .count) (p .roles) n a r b) where

@@ -9,7 +9,7 @@ use native.Mathlib.Omega.{arith}
 use lib.Dec.{ltb, eqb}
 use lib.ListN.{length, getD, drop}
 use lib.Seq.{drop-set-lt}
-use borrow.Author.Tests.{lt-ltb, le-ltb, ltb-true, ltb-false}
+use borrow.Author.Tests.{ltb-true, ltb-false}
 use Rattle.bitset.specs.Bits.{Set, look, bit, word, without, cleared, size}
 use Rattle.bitset.proofs.Words.{words-same}
 use Rattle.elimination.specs.Sets.{below, Same}
@@ -22,9 +22,9 @@ use Rattle.tbox.proofs.Promised.{refusal-cases, refusal-number, refusal-place}
 use Rattle.semantics.specs.Conditions.{View, dominoes, initial, defective, canon}
 use Rattle.semantics.specs.Views.{kbView}
 use Rattle.semantics.proofs.Defects.{defective-monotone}
-use Rattle.domino.specs.Answers.{held, isShort, verdictNumber, verdictOf, strands, openSays, openLeaves, strikeSays, strikeLeaves, settleSays, settleLeaves, judgeSays, judgeLeaves}
+use Rattle.domino.specs.Answers.{held, isShort, verdictNumbers, verdictOf, strands, openSays, openLeaves, strikeSays, strikeLeaves, settleSays, settleLeaves, judgeSays, judgeLeaves}
 use Rattle.domino.specs.Demanded.{refusalOf, placeOf, Refuses, Demand1, Demand1Done}
-use Rattle.domino.proofs.Saying.{held-room, held-some, written-long, written-look, written-past, open-says, open-leaves, settle-says, settle-leaves, judge-says, judge-stranded, judge-leaves, strike-long}
+use Rattle.domino.proofs.Saying.{held-room, held-some, written-long, written-look, written-past, open-says, open-leaves, strike-says, strike-beyond, settle-says, settle-leaves, judge-says, judge-stranded, judge-leaves, strike-long}
 
 -- ---- the words past those needed
 
@@ -122,7 +122,7 @@ module _ (sheet ws : List ℕ) where
   strike-refuses n (kb k) e = go (isShort k ws) refl (ltb n (dominoes (kbView k))) refl
     where
       go : (b : Bool) → isShort k ws ≡ b → (d : Bool) → ltb n (dominoes (kbView k)) ≡ d
-          → Refuses sheet ws (cond b (10 ∷ 0 ∷ []) (cond d (0 ∷ 0 ∷ n ∷ verdictNumber (verdictOf (kbView k) (look ws) n) ∷ []) (11 ∷ 0 ∷ [])))
+          → Refuses sheet ws (cond b (10 ∷ 0 ∷ []) (cond d (0 ∷ 0 ∷ n ∷ verdictNumbers (verdictOf (kbView k) (look ws) n)) (11 ∷ 0 ∷ [])))
           (cond b ws (strikeWords (dominoes (kbView k)) (defective (kbView k)) n ws))
       go true q d r = from-short sheet ws k e
       go false q true r =
@@ -191,14 +191,6 @@ no-words sheet k n e =
 -- ---- enough words
 
 module _ (k : Kb) (ws : List ℕ) (h : held (kbView k) ≤ length ws) where
-  strike-done : (n : ℕ) → n < dominoes (kbView k) → refusalOf (strikeSays (kb k) n ws) ≡ 0
-  unfolding strikeSays
-  strike-done n l = rw (le-ltb (length ws) (held (kbView k)) h, lt-ltb n (dominoes (kbView k)) l)
-
-  strike-beyond : (n : ℕ) → dominoes (kbView k) ≤ n → strikeSays (kb k) n ws ≡ 11 ∷ 0 ∷ []
-  unfolding strikeSays
-  strike-beyond n l = rw (le-ltb (length ws) (held (kbView k)) h, le-ltb n (dominoes (kbView k)) l)
-
   -- settling what was opened leaves what judging leaves
   pub opened-settled : judgeLeaves (kb k) ws ≡ settleLeaves (kb k) (openLeaves (kb k) ws)
   unfolding canon
@@ -226,8 +218,8 @@ module _ (k : Kb) (ws : List ℕ) (h : held (kbView k) ≤ length ws) where
   done n =
       record {
         opens = ap refusalOf (open-says k ws h);
-        strikes = strike-done n;
-        beyond = strike-beyond n;
+        strikes = λ l. ap refusalOf (strike-says k ws h n l);
+        beyond = strike-beyond k ws h n;
         settles = ap refusalOf (settle-says k ws h);
         judges = λ e. ap refusalOf (judge-says k ws h e);
         stranded = judge-stranded k ws h;

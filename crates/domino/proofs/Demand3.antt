@@ -20,7 +20,7 @@ use Rattle.tbox.specs.Answers.{limit}
 use Rattle.semantics.specs.Conditions.{View, dominoes, initial, lacks, defective, defectAt, canon}
 use Rattle.semantics.specs.Views.{kbView}
 use Rattle.semantics.proofs.Defects.{lacks-monotone, defective-is, defective-monotone}
-use Rattle.domino.specs.Answers.{held, settleLeaves}
+use Rattle.domino.specs.Answers.{held, openLeaves, settleLeaves}
 use Rattle.domino.specs.Demanded.{StableWords, called, callsLeave, Demand3, Demand3Calls}
 use Rattle.domino.proofs.Saying.{held-room, written-long, written-look, written-spare, written-front, written-ones, open-says, open-leaves, strike-leaves, settle-says, settle-leaves, judge-leaves, strike-long, stable-words, words-stable}
 
@@ -112,6 +112,18 @@ pub calls-leave : (k : Kb) (cs : List Call) (ws : List ℕ) → held (kbView k) 
 calls-leave k cs ws h =
     ap (runWith (called (kb k)) cs) (open-leaves k ws h)
     ∙ calls-are k cs _ (omega (arith, written-long (held (kbView k)) (dominoes (kbView k)) (initial (kbView k)) ws h))
+
+calls-long : (k : Kb) (cs : List Call) (us : List ℕ) → held (kbView k) ≤ length us → length (runWith (called (kb k)) cs us) ≡ length us
+calls-long k [] us h = refl
+calls-long k (c ∷ cs) us h =
+    let l : length (called (kb k) c us) ≡ length us = ap length (call-is k c us h) ∙ act-long (kbView k) c us h in
+    calls-long k cs (called (kb k) c us) (omega arith) ∙ l
+
+pub calls-leave-long : (k : Kb) (cs : List Call) (ws : List ℕ) → held (kbView k) ≤ length ws → length (callsLeave (kb k) cs ws) ≡ length ws
+calls-leave-long k cs ws h =
+    let l : length (openLeaves (kb k) ws) ≡ length ws =
+    ap length (open-leaves k ws h) ∙ written-long (held (kbView k)) (dominoes (kbView k)) (initial (kbView k)) ws h in
+    calls-long k cs (openLeaves (kb k) ws) (omega arith) ∙ l
 
 -- ---- a list of calls
 

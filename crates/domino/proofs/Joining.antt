@@ -25,12 +25,12 @@ use Rattle.tbox.specs.Reading.{Kb, kb as kbR, flatsOf, partsOf, readKb}
 use Rattle.tbox.specs.Answers.{limit}
 use Rattle.tbox.specs.declared.base.Base.{Base}
 use Rattle.tbox.proofs.Promised.{kb-few, kb-fillers}
-use Rattle.semantics.specs.Dominoes.{Dominoes, leftOf, rightOf, numbered}
-use Rattle.semantics.specs.Conditions.{View, kb, ex, uni, witness, delex, deluni, sym, defect, initially, dominoes, initial, defective, defectAt, canon}
+use Rattle.semantics.specs.Dominoes.{Dominoes, leftOf, rolesOf, rightOf, numbered}
+use Rattle.semantics.specs.Conditions.{View, kb, ex, uni, witness, delex, deluni, sym, initially, dominoes, initial, defective, defectAt, canon}
 use Rattle.semantics.specs.Views.{fillerIn, hasFiller, kbView}
 use Rattle.semantics.proofs.Truths.{true-eqb, all-same, any-same}
 use Rattle.semantics.proofs.Numbers.{domino-of}
-use Rattle.semantics.proofs.Defects.{defective-is, defective-monotone}
+use Rattle.semantics.proofs.Defects.{defect-cases, defective-is, defective-monotone}
 use Rattle.domino.specs.declared.Outcome.{Outcome}
 use Rattle.domino.specs.declared.judging.Judgement.{Judgement}
 use Rattle.domino.specs.Tables.{inLabel, view, Sized, partsIn}
@@ -138,13 +138,22 @@ module _ (v w : View) (a : Agree v w) where
       rw (kb-same A (d .left), ex-same A _ B (d .roles), uni-same A _ B (d .roles))
 
   defect-same : (S : Set) (n : ℕ) → n < dominoes v → defectAt v S n ≡ defectAt u S n
-  unfolding defectAt defect sym
+  unfolding defectAt sym
   defect-same S n h =
       let d = domino-of (v .parts) (v .roles) n h in
       let A : ℕ = leftOf (v .parts) (v .roles) n in
+      let R : ℕ = rolesOf (v .parts) (v .roles) n in
       let B : ℕ = rightOf (v .parts) n in
       let D : Dominoes = numbered (v .parts) (v .roles) S in
-      rw (kb-same A (d .left), ex-same A _ B (d .roles), uni-same A _ B (d .roles), delex-same D A, deluni-same D A)
+      rw (
+        defect-cases v D A R B,
+        defect-cases u D A R B,
+        kb-same A (d .left),
+        ex-same A R B (d .roles),
+        uni-same A R B (d .roles),
+        delex-same D A,
+        deluni-same D A,
+      )
 
   defective-same : (S : Set) (n : ℕ) → n < dominoes v → defective v S n ≡ defective u S n
   defective-same S n h = defective-is v S n ∙ ap (λ (x : ℕ). not (eqb x 0)) (defect-same S n h) ∙ flip (defective-is u S n)

@@ -21,4 +21,5 @@ pub mod Judged
 pub mod Demand1
 pub mod Demand2
 pub mod Demand3
+pub mod Reasons
 pub mod Worked

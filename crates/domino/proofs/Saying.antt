@@ -24,7 +24,7 @@ use Rattle.semantics.specs.Conditions.{View, dominoes, initial, defective, defe
 use Rattle.semantics.specs.Views.{kbView}
 use Rattle.semantics.proofs.Truths.{is-true, of-true, eqb-true}
 use Rattle.semantics.proofs.Defects.{defective-is}
-use Rattle.domino.specs.Answers.{held, isShort, strands, openSays, openLeaves, strikeLeaves, settleSays, settleLeaves, judgeSays, judgeLeaves}
+use Rattle.domino.specs.Answers.{held, isShort, strands, verdictNumbers, verdictOf, openSays, openLeaves, strikeSays, strikeLeaves, settleSays, settleLeaves, judgeSays, judgeLeaves}
 use Rattle.domino.specs.Demanded.{StableWords}
 
 -- ---- the words needed
@@ -93,6 +93,15 @@ module _ (k : Kb) (ws : List ℕ) (enough : held (kbView k) ≤ length ws) where
   pub open-leaves : openLeaves (kb k) ws ≡ written (held (kbView k)) (dominoes (kbView k)) (initial (kbView k)) ws
   unfolding openLeaves
   open-leaves = rw not-short
+
+  pub strike-says : (n : ℕ) → n < dominoes (kbView k)
+      → strikeSays (kb k) n ws ≡ 0 ∷ 0 ∷ n ∷ verdictNumbers (verdictOf (kbView k) (look ws) n)
+  unfolding strikeSays
+  strike-says n h = rw (not-short, lt-ltb n (dominoes (kbView k)) h)
+
+  pub strike-beyond : (n : ℕ) → dominoes (kbView k) ≤ n → strikeSays (kb k) n ws ≡ 11 ∷ 0 ∷ []
+  unfolding strikeSays
+  strike-beyond n h = rw (not-short, le-ltb n (dominoes (kbView k)) h)
 
   pub strike-leaves : (n : ℕ) → strikeLeaves (kb k) n ws ≡ strikeWords (dominoes (kbView k)) (defective (kbView k)) n ws
   unfolding strikeLeaves

@@ -26,11 +26,11 @@ use Rattle.tbox.specs.Promise.{kindOf, roleHolds}
 use Rattle.tbox.specs.Reading.{Kb, Reading, refusal, kb, readKb, reading, admit}
 use Rattle.tbox.specs.Answers.{limit, readSays}
 use Rattle.semantics.specs.Dominoes.{number, leftOf, rolesOf, rightOf, inverse, numbered}
-use Rattle.semantics.specs.Conditions.{View, kb as good, ex, uni, witness, delex, deluni, sym, defect, initially, sustained, dominoes, initial, lacks, defective, defectAt, canon}
+use Rattle.semantics.specs.Conditions.{View, firstFailing, kb as good, ex, uni, witness, delex, deluni, sym, condition, defect, initially, sustained, dominoes, initial, lacks, defective, defectAt, canon}
 use Rattle.semantics.specs.Views.{fillerIn, hasFiller, kbView}
 use Rattle.semantics.proofs.Defects.{defective-monotone}
-use Rattle.domino.specs.Answers.{held, isShort, verdictNumber, verdictOf, openSays, openLeaves, strikeSays, strikeLeaves, settleSays, judgeSays, judgeLeaves}
-use Rattle.domino.specs.Examples.{Row, row, answered, table, struck, strikes, needs}
+use Rattle.domino.specs.Answers.{held, isShort, verdictNumbers, verdictOf, openSays, openLeaves, strikeSays, strikeLeaves, settleSays, judgeSays, judgeLeaves}
+use Rattle.domino.specs.Examples.{Row, row, answered, table, tried, strikes, needs}
 use Rattle.domino.proofs.Saying.{held-room, written-long, written-look, open-says, open-leaves, settle-says, judge-says, judge-leaves}
 use Rattle.domino.proofs.Demand2.{never-stranded}
 
@@ -59,8 +59,8 @@ readRow (kb k) s r l = elim (isShort k l) [ true ↦ refusedRow 10 0 s r l | fal
 abbrev computed : Row → Row
 computed r = readRow (readKb limit (r .sheet)) (r .sheet) (readSays (readKb limit (r .sheet))) (r .lent)
 
-both-computed : (map computed table ≡ table) × (map struck strikes ≡ strikes)
-unfolding readSays strikeSays strikeLeaves openLeaves verdictOf verdictNumber cleared readKb reading admit flatten run walkPending walk meetOne atom restrictions weight weights nameParts pendings plain negated axiomNf nodesOf nodesFrom nodeOf axiomsOf axiomOf scanSheet scan recordFault recordAfter after namesAfter rolesAfter bodyFault numberFault referenceFault emptyFault vacuousOf name shapeOf isLeaf isRestriction eval kbOn roleOn kindOf roleHolds number leftOf rolesOf rightOf inverse numbered good ex uni witness delex deluni sym defect initially sustained initial lacks defectAt fillerIn hasFiller word wordAt wordsFrom size every some
+both-computed : (map computed table ≡ table) × (map tried strikes ≡ strikes)
+unfolding readSays strikeSays strikeLeaves openLeaves verdictOf verdictNumbers cleared readKb reading admit flatten run walkPending walk meetOne atom restrictions weight weights nameParts pendings plain negated axiomNf nodesOf nodesFrom nodeOf axiomsOf axiomOf scanSheet scan recordFault recordAfter after namesAfter rolesAfter bodyFault numberFault referenceFault emptyFault vacuousOf name shapeOf isLeaf isRestriction eval kbOn roleOn kindOf roleHolds number leftOf rolesOf rightOf inverse numbered good ex uni witness delex deluni sym firstFailing condition defect initially sustained initial lacks defectAt fillerIn hasFiller word wordAt wordsFrom size every some
 both-computed = (refl, refl)
 
 -- ---- the definitions' answers are those
@@ -127,7 +127,7 @@ rows-right =
     map-same answered computed (λ r. same-row (readKb limit (r .sheet)) (r .sheet) (readSays (readKb limit (r .sheet))) (r .lent)) table ∙ both-computed .0
 
 -- and every strike
-pub strikes-right : map struck strikes ≡ strikes
+pub strikes-right : map tried strikes ≡ strikes
 strikes-right = both-computed .1
 
 -- "c + L of 3 needs 1 word, of 9 needs 4,096 .., of 12 needs 262,144"

@@ -2,14 +2,14 @@
 -- definitions.
 use Prim.Native.Nat.{ℕ, _+_, _*_, _^_}
 use mathlib.Core.Path.{_≡_}
-use mathlib.Core.Bool.{Bool, true, false, not, _&&_, cond}
+use mathlib.Core.Bool.{Bool, not, _&&_, cond}
 use mathlib.Core.List.{List, [], _∷_}
 use lib.Dec.{eqb, ltb}
 use lib.ListN.{length}
 use Rattle.bitset.specs.Bits.{Set, look, size}
 use Rattle.elimination.specs.Sets.{some}
 use Rattle.elimination.specs.Elimination.{settled}
-use Rattle.elimination.specs.Calls.{written, strikeWords, settleWords, Call, strike, settle}
+use Rattle.elimination.specs.Calls.{written, strikeWords, settleWords}
 use Rattle.tbox.specs.Reading.{Kb, Reading, refusal, kb}
 use Rattle.semantics.specs.Dominoes.{rightOf, number, wordsFor}
 use Rattle.semantics.specs.Conditions.{View, dominoes, initial, defective, defectAt, canon}
@@ -32,14 +32,15 @@ unfoldable pub openNumbers : OpenAnswer → List ℕ
 openNumbers (Refused n p) = n ∷ p ∷ []
 openNumbers (Opened size) = 0 ∷ 0 ∷ size ∷ []
 
-unfoldable pub verdictNumber : Verdict → ℕ
-verdictNumber Absent = 0
-verdictNumber Struck = 1
-verdictNumber Kept = 2
+-- a verdict's number, then the condition that a struck domino failed
+unfoldable pub verdictNumbers : Verdict → List ℕ
+verdictNumbers Absent = 0 ∷ []
+verdictNumbers (Struck condition) = 1 ∷ condition ∷ []
+verdictNumbers Kept = 2 ∷ []
 
 unfoldable pub strikeNumbers : StrikeAnswer → List ℕ
 strikeNumbers (NotStruck n p) = n ∷ p ∷ []
-strikeNumbers (Tried s) = 0 ∷ 0 ∷ s .number ∷ verdictNumber (s .verdict) ∷ []
+strikeNumbers (Tried s) = 0 ∷ 0 ∷ s .number ∷ verdictNumbers (s .verdict)
 
 unfoldable pub settleNumbers : SettleAnswer → List ℕ
 settleNumbers (NotSettled n p) = n ∷ p ∷ []
@@ -70,16 +71,17 @@ openLeaves (kb k) ws =
     cond (isShort k ws) ws
     (written (held (kbView k)) (dominoes (kbView k)) (initial (kbView k)) ws)
 
--- strike: "Absent, not in the set; Struck, in it and loose, and now out; Kept, in it and not loose"
+-- strike: "Absent, not in the set; Struck, in it and loose, and now out; Kept, in it and not loose"; 02, N2: the number "of the
+-- first condition that fails in 01's order, and Struck carries it"
 unfoldable pub verdictOf : View → Set → ℕ → Verdict
-verdictOf v D n = cond (D n) (cond (eqb (defectAt v D n) 0) Kept Struck) Absent
+verdictOf v D n = cond (D n) (cond (eqb (defectAt v D n) 0) Kept (Struck (defectAt v D n))) Absent
 
 -- "then 11, number not below 2^(2c+2L)"
 unfoldable pub strikeSays : Reading → ℕ → List ℕ → List ℕ
 strikeSays (refusal m p) n ws = m ∷ p ∷ []
 strikeSays (kb k) n ws =
     cond (isShort k ws) (10 ∷ 0 ∷ [])
-    (cond (ltb n (dominoes (kbView k))) (0 ∷ 0 ∷ n ∷ verdictNumber (verdictOf (kbView k) (look ws) n) ∷ []) (11 ∷ 0 ∷ []))
+    (cond (ltb n (dominoes (kbView k))) (0 ∷ 0 ∷ n ∷ verdictNumbers (verdictOf (kbView k) (look ws) n)) (11 ∷ 0 ∷ []))
 
 unfoldable pub strikeLeaves : Reading → ℕ → List ℕ → List ℕ
 strikeLeaves (refusal m p) n ws = ws

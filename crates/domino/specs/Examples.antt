@@ -73,24 +73,48 @@ table =
     refused (0x10 ∷ 0x00 ∷ 0x12 ∷ 0x00 ∷ 0x01 ∷ 0x07 ∷ 0x01 ∷ 0x02 ∷ []) one 8 5 ∷
     []
 
--- "Strikes on S1 opened: 32 Struck; 2 Absent; 34 Kept; 64 refused 11.": a number, what strike says, and what it leaves
+-- a strike: a sheet, the words before, a number; what strike says, and what it leaves
 pub record Strike : Type 0 where
+  pub sheet : List ℕ
+  pub words : List ℕ
   pub number : ℕ
   pub says : List ℕ
   pub leaves : List ℕ
 
-abbrev pub struck : Strike → Strike
-struck r =
-    let s = readKb limit s1 in
-    let ws = openLeaves s one in
-    record { number = r .number; says = strikeSays s (r .number) ws; leaves = strikeLeaves s (r .number) ws }
+abbrev strike : List ℕ → List ℕ → ℕ → List ℕ → List ℕ → Strike
+strike s l n m q = record { sheet = s; words = l; number = n; says = m; leaves = q }
 
+-- the row, as the definitions have it
+abbrev pub tried : Strike → Strike
+tried r =
+    let s = readKb limit (r .sheet) in
+    strike (r .sheet) (r .words) (r .number) (strikeSays s (r .number) (r .words)) (strikeLeaves s (r .number) (r .words))
+
+-- S1, S4 and S5 opened, as in the table above
+abbrev opened1 : List ℕ
+opened1 = 0xffffffff00000000 ∷ 5 ∷ []
+
+abbrev opened4 : List ℕ
+opened4 = 0xff00 ∷ 5 ∷ []
+
+abbrev opened5 : List ℕ
+opened5 = 0xffffffffffff0000 ∷ 5 ∷ []
+
+-- "Strikes on S1 opened: 32 Struck; 2 Absent; 34 Kept; 64 refused 11."; and one strike by each of the conditions 1 to 5: those of
+-- opening on full words, the others on sets just opened
 abbrev pub strikes : List Strike
 strikes =
-    record { number = 32; says = 0 ∷ 0 ∷ 32 ∷ 1 ∷ []; leaves = 0xfffffffe00000000 ∷ 5 ∷ [] } ∷
-    record { number = 2; says = 0 ∷ 0 ∷ 2 ∷ 0 ∷ []; leaves = 0xffffffff00000000 ∷ 5 ∷ [] } ∷
-    record { number = 34; says = 0 ∷ 0 ∷ 34 ∷ 2 ∷ []; leaves = 0xffffffff00000000 ∷ 5 ∷ [] } ∷
-    record { number = 64; says = 11 ∷ 0 ∷ []; leaves = 0xffffffff00000000 ∷ 5 ∷ [] } ∷
+    strike s1 opened1 32 (0 ∷ 0 ∷ 32 ∷ 1 ∷ 6 ∷ []) (0xfffffffe00000000 ∷ 5 ∷ []) ∷
+    strike s1 opened1 2 (0 ∷ 0 ∷ 2 ∷ 0 ∷ []) opened1 ∷
+    strike s1 opened1 34 (0 ∷ 0 ∷ 34 ∷ 2 ∷ []) opened1 ∷
+    strike s1 opened1 64 (11 ∷ 0 ∷ []) opened1 ∷
+    strike s1 one 0 (0 ∷ 0 ∷ 0 ∷ 1 ∷ 1 ∷ []) (0xfffffffffffffffe ∷ 5 ∷ []) ∷
+    strike s6 four 12 (0 ∷ 0 ∷ 12 ∷ 1 ∷ 2 ∷ [])
+    (0xffffffffffffefff ∷ 0xffffffffffffffff ∷ 0xffffffffffffffff ∷ 0xffffffffffffffff ∷ 5 ∷ []) ∷
+    strike s3 four 208 (0 ∷ 0 ∷ 208 ∷ 1 ∷ 3 ∷ [])
+    (0xffffffffffffffff ∷ 0xffffffffffffffff ∷ 0xffffffffffffffff ∷ 0xfffffffffffeffff ∷ 5 ∷ []) ∷
+    strike s4 opened4 8 (0 ∷ 0 ∷ 8 ∷ 1 ∷ 4 ∷ []) (0xfe00 ∷ 5 ∷ []) ∷
+    strike s5 opened5 16 (0 ∷ 0 ∷ 16 ∷ 1 ∷ 5 ∷ []) (0xfffffffffffe0000 ∷ 5 ∷ []) ∷
     []
 
 -- "c + L of 3 needs 1 word, of 9 needs 4,096 .., of 12 needs 262,144"

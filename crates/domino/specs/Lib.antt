@@ -4,4 +4,5 @@ pub mod Sweeps
 pub mod Demands
 pub mod Answers
 pub mod Demanded
+pub mod Reasons
 pub mod Examples

@@ -210,8 +210,6 @@ pub(crate) fn defect(set: &[u64], p: Parts, role: &[u64; 80], good: &[u64; 64], 
     if d != 0 {
         return d;
     }
-    if !bitset::member(set, index(c, l, b, inverse(l, r), a)) {
-        return 6;
-    }
-    0
+    let matched = bitset::member(set, index(c, l, b, inverse(l, r), a));
+    if matched { 0 } else { 6 }
 }

@@ -33,7 +33,8 @@ pub enum OpenAnswer {
 
 pub enum Verdict {
     Absent,
-    Struck,
+    // The number of the first condition that the domino failed.
+    Struck(u8),
     Kept,
 }
 
@@ -168,7 +169,8 @@ fn strike_set(
             verdict: Verdict::Absent,
         };
     }
-    if defect(set, p, role, good, number) == 0 {
+    let condition = defect(set, p, role, good, number);
+    if condition == 0 {
         return Outcome {
             number: number,
             verdict: Verdict::Kept,
@@ -177,6 +179,6 @@ fn strike_set(
     bitset::clear(set, number);
     Outcome {
         number: number,
-        verdict: Verdict::Struck,
+        verdict: Verdict::Struck(condition),
     }
 }

@@ -9,13 +9,13 @@ use lib.Dec.{T, eqb, ltb, eqb→eq, ltb→lt, lt→ltb, T-not, not-T}
 use lib.ListN.{getD, take, drop, length, length-append, List·getD-append}
 use lib.Seq.{drop-set-lt, drop-at}
 use Rattle.bitset.specs.Bits.{Set, bit, look, word, words, areWords, without, cleared}
-use Rattle.elimination.specs.Sets.{below, Same}
+use Rattle.elimination.specs.Sets.{below, Sub, Same}
 use Rattle.elimination.specs.Elimination.{isStable, settled, Monotone, Within, defectiveBy, canonical}
 use Rattle.elimination.specs.Calls.{Call, strike, settle, runWith, act, runCalls, struck, written, actWords, after, Demand3Words}
 use Rattle.bitset.proofs.Facts.{and-left, and-right, and-both, T-same, T-of}
 use Rattle.bitset.proofs.Words.{look-words, words-length, words-are, words-same, are-cleared, length-cleared, look-cleared, are-append, are-drop, front}
-use Rattle.elimination.proofs.Settling.{same-sub′, stable-same, defectiveBy-mono, within-remove, within-same, within-stable}
-use Rattle.elimination.proofs.Calls.{run-seen, run-same, run-holds, run-stable, passes-stable}
+use Rattle.elimination.proofs.Settling.{same-sub, same-sub′, stable-same, defectiveBy-mono, within-remove, within-same, within-stable}
+use Rattle.elimination.proofs.Calls.{run-seen, run-same, run-sub, run-holds, run-stable, passes-stable}
 
 -- the words past the first k do not see a bit cleared
 drop-cleared : (k : ℕ) (ws : List ℕ) (n : ℕ) → n / 64 < k → drop k (cleared ws n) ≡ drop k ws
@@ -126,6 +126,24 @@ module _ (k N : ℕ) (room : N ≤ 64 * k) (ws₀ : List ℕ) where
 
 -- ---- demand 3 on words
 module _ (k N : ℕ) (initial : Set) (lacks : Set → ℕ → Bool) (mono : Monotone N lacks) (room : N ≤ 64 * k) where
+  -- the words after a list of calls hold the set after it
+  after-seen : (cs : List Call) (ws : List ℕ) → T (areWords ws) → k ≤ length ws
+      → Same N (look (after k N initial lacks cs ws)) (runCalls N (defectiveBy initial lacks) cs initial)
+  after-seen cs ws t l p h =
+      let defective = defectiveBy initial lacks in
+      let opened = written k N initial ws in
+      let lm : Monotone N (defectiveBy initial lacks) = defectiveBy-mono N initial lacks mono in
+      run-seen N defective lm (List ℕ) look (actWords k N defective) (Intact k N room ws) (stay k N room ws defective)
+      (does k N room ws defective) cs opened (written-intact k N room ws initial ws t l refl) p h
+      ∙ run-same N defective lm cs (look opened) initial (written-sees k N room ws initial ws) p h
+
+  -- no call puts anything in
+  pub after-initial : (cs : List Call) (ws : List ℕ) → T (areWords ws) → k ≤ length ws
+      → Sub N (look (after k N initial lacks cs ws)) initial
+  after-initial cs ws t l p h u =
+      run-sub N (defectiveBy initial lacks) (defectiveBy-mono N initial lacks mono) cs initial p h
+      (same-sub N (look (after k N initial lacks cs ws)) (runCalls N (defectiveBy initial lacks) cs initial) (after-seen cs ws t l) p h u)
+
   pub demand-3-words : (cs : List Call) (ws : List ℕ) → T (areWords ws) → k ≤ length ws → Demand3Words k N initial lacks cs ws
   demand-3-words cs ws t l =
       let defective = defectiveBy initial lacks in
@@ -133,9 +151,7 @@ module _ (k N : ℕ) (initial : Set) (lacks : Set → ℕ → Bool) (mono : Mono
       let lm : Monotone N (defectiveBy initial lacks) = defectiveBy-mono N initial lacks mono in
       let start : Intact k N room ws opened = written-intact k N room ws initial ws t l refl in
       let end : Intact k N room ws (after k N initial lacks cs ws) = stays k N room ws defective cs opened start in
-      let seen : Same N (look (after k N initial lacks cs ws)) (runCalls N (defectiveBy initial lacks) cs initial) = λ p h.
-      run-seen N defective lm (List ℕ) look (actWords k N defective) (Intact k N room ws) (stay k N room ws defective) (does k N room ws defective) cs opened start p h
-      ∙ run-same N defective lm cs (look opened) initial (written-sees k N room ws initial ws) p h in
+      let seen : Same N (look (after k N initial lacks cs ws)) (runCalls N (defectiveBy initial lacks) cs initial) = after-seen cs ws t l in
       let arrived : T (isStable N (defectiveBy initial lacks) (look (after k N initial lacks cs ws))) → Same N (look (after k N initial lacks cs ws)) (canonical N initial lacks) = λ r p h.
       seen p h ∙ run-stable N defective lm cs initial (stable-same N defective lm (look (after k N initial lacks cs ws)) (runCalls N defective cs initial) seen r) p h in
       record {

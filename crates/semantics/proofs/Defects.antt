@@ -1,77 +1,86 @@
 -- Of which condition a domino's defect is the number; a larger set has fewer defective dominoes. Assumes nothing.
-use mathlib.Core.Path.{_≡_, refl, sym as flip, subst, _∙_}
-use mathlib.Core.Bool.{Bool, true, false, not, _&&_, _||_, cond, false≢true}
+use mathlib.Core.Path.{_≡_, refl, sym as flip, ap, subst, _∙_}
+use mathlib.Core.Bool.{Bool, true, false, not, _&&_, _||_, cond}
+use mathlib.Core.List.{List, [], _∷_, _++_}
 use Prim.Native.Nat.{ℕ, _*_, _^_, _≤_, _<_}
-use native.Mathlib.Decide.{decLt}
 use native.Mathlib.Omega.{arith}
 use lib.Dec.{eqb}
 use Rattle.bitset.specs.Bits.{Set, bit}
-use Rattle.elimination.specs.Sets.{every, some}
+use Rattle.elimination.specs.Sets.{some}
 use Rattle.elimination.specs.Elimination.{Monotone}
 use Rattle.elimination.proofs.Tests.{not-mono}
 use Rattle.elimination.proofs.Settling.{defectiveBy-mono}
+use Rattle.tbox.specs.Bounds.{All}
 use Rattle.semantics.specs.Dominoes.{Dominoes, Domino, number, leftOf, rolesOf, rightOf, inverse, numbered}
-use Rattle.semantics.specs.Conditions.{View, kb, ex, uni, witness, delex, deluni, sym, defect, initially, sustained, dominoes, initial, lacks, defective, defectAt}
+use Rattle.semantics.specs.Conditions.{View, order, firstFailing, FirstFails, kb, ex, uni, witness, delex, deluni, sym, condition, defect, initially, sustained, dominoes, initial, lacks, defective, defectAt}
 use Rattle.semantics.proofs.Truths.{is-true, of-true, and-l, and-r, and-i, imp-e, imp-i, all-at, all-intro, any-intro, any-found}
 use Rattle.semantics.proofs.Numbers.{number-lt, domino-of, inverse-lt}
 
--- ---- six tests
+-- ---- the first number of a list whose test fails
 
--- the number of the first that fails, 0 if none does
-abbrev first : Bool → Bool → Bool → Bool → Bool → Bool → ℕ
-first a b c d e f = cond a (cond b (cond c (cond d (cond e (cond f 0 6) 5) 4) 3) 2) 1
+module _ (test : ℕ → Bool) where
+  fails-first : (ks : List ℕ) (k : ℕ) → FirstFails test ks k → firstFailing test ks ≡ k
+  unfolding firstFailing
+  fails-first ks k f = rw (f .stands) (go (f .before) (f .pass))
+    where
+      go : (js : List ℕ) → All (λ (j : ℕ). test j ≡ true) js → firstFailing test (js ++ (k ∷ f .after)) ≡ k
+      go [] p = rw (f .fails)
+      go (j ∷ js) p = rw (p .0) (go js (p .1))
 
--- the test with a number
-abbrev pub testOf : Bool → Bool → Bool → Bool → Bool → Bool → ℕ → Bool
-testOf a b c d e f k =
-    cond (eqb k 1) a (cond (eqb k 2) b (cond (eqb k 3) c (cond (eqb k 4) d (cond (eqb k 5) e (cond (eqb k 6) f true)))))
+  first-fails : (ks : List ℕ) (k : ℕ) → 0 < k → firstFailing test ks ≡ k → FirstFails test ks k
+  unfolding firstFailing
+  first-fails [] k h q = absurd (omega arith)
+  first-fails (j ∷ ks) k h q = go (test j) refl q (first-fails ks k h)
+    where
+      go : (b : Bool) → test j ≡ b → cond b (firstFailing test ks) j ≡ k → (firstFailing test ks ≡ k → FirstFails test ks k)
+          → FirstFails test (j ∷ ks) k
+      go false e q r = subst (FirstFails test (j ∷ ks)) q (record { before = []; after = ks; stands = refl; pass = tt; fails = e })
+      go true e q r =
+          record {
+            before = j ∷ r q .before;
+            after = r q .after;
+            stands = ap (λ (l : List ℕ). j ∷ l) (r q .stands);
+            pass = (e, r q .pass);
+            fails = r q .fails;
+          }
 
--- all tests before k pass, and test k fails
-pub record FirstFails (test : ℕ → Bool) (k : ℕ) : Type 0 where
-  pub before : (j : ℕ) → j < k → test j ≡ true
-  pub fails : test k ≡ false
+  -- the first is in the list, if any fails
+  first-in : (P : ℕ → Type 0) (ks : List ℕ) → P 0 → All P ks → P (firstFailing test ks)
+  unfolding firstFailing
+  first-in P [] z p = z
+  first-in P (j ∷ ks) z p = go (test j) (first-in P ks z (p .1))
+    where
+      go : (b : Bool) → P (firstFailing test ks) → P (cond b (firstFailing test ks) j)
+      go false r = p .0
+      go true r = r
 
-fails-at : (test : ℕ → Bool) (m k : ℕ) → every m test ≡ true → test m ≡ false → m ≡ k → FirstFails test k
-fails-at test m k p q e = subst (FirstFails test) e (record { before = all-at m test p; fails = q })
+  -- none fails
+  first-none : (ks : List ℕ) → All (λ (k : ℕ). 0 < k) ks → firstFailing test ks ≡ 0 → All (λ (k : ℕ). test k ≡ true) ks
+  unfolding firstFailing
+  first-none [] z q = tt
+  first-none (j ∷ ks) z q = go (test j) refl q (first-none ks (z .1))
+    where
+      go : (b : Bool) → test j ≡ b → cond b (firstFailing test ks) j ≡ 0 → (firstFailing test ks ≡ 0 → All (λ (k : ℕ). test k ≡ true) ks)
+          → All (λ (k : ℕ). test k ≡ true) (j ∷ ks)
+      go false e q r = absurd (omega (arith, z .0))
+      go true e q r = (e, r q)
 
-first-fails : (a b c d e f : Bool) (k : ℕ) → 0 < k → first a b c d e f ≡ k → FirstFails (testOf a b c d e f) k
-unfolding every
-first-fails false b c d e f k h q = fails-at _ 1 k refl refl q
-first-fails true false c d e f k h q = fails-at _ 2 k refl refl q
-first-fails true true false d e f k h q = fails-at _ 3 k refl refl q
-first-fails true true true false e f k h q = fails-at _ 4 k refl refl q
-first-fails true true true true false f k h q = fails-at _ 5 k refl refl q
-first-fails true true true true true false k h q = fails-at _ 6 k refl refl q
-first-fails true true true true true true k h q = absurd (omega arith)
+  none-first : (ks : List ℕ) → All (λ (k : ℕ). test k ≡ true) ks → firstFailing test ks ≡ 0
+  unfolding firstFailing
+  none-first [] p = refl
+  none-first (j ∷ ks) p = rw (p .0) (none-first ks (p .1))
 
-first-le : (a b c d e f : Bool) → first a b c d e f ≤ 6
-first-le false b c d e f = omega arith
-first-le true false c d e f = omega arith
-first-le true true false d e f = omega arith
-first-le true true true false e f = omega arith
-first-le true true true true false f = omega arith
-first-le true true true true true false = omega arith
-first-le true true true true true true = omega arith
+order-some : All (λ (k : ℕ). 0 < k) order
+order-some = (omega arith, (omega arith, (omega arith, (omega arith, (omega arith, (omega arith, tt))))))
 
-first-none : (a b c d e f : Bool) → first a b c d e f ≡ 0 → ((a && (b && c)) ≡ true) × ((d && (e && f)) ≡ true)
-first-none false b c d e f q = absurd (omega arith)
-first-none true false c d e f q = absurd (omega arith)
-first-none true true false d e f q = absurd (omega arith)
-first-none true true true false e f q = absurd (omega arith)
-first-none true true true true false f q = absurd (omega arith)
-first-none true true true true true false q = absurd (omega arith)
-first-none true true true true true true q = (refl, refl)
+order-le : All (λ (k : ℕ). k ≤ 6) order
+order-le = (omega arith, (omega arith, (omega arith, (omega arith, (omega arith, (omega arith, tt))))))
 
-none-first : (a b c d e f : Bool) → (a && (b && c)) ≡ true → (d && (e && f)) ≡ true → first a b c d e f ≡ 0
-none-first false b c d e f p q = absurd (false≢true p)
-none-first true false c d e f p q = absurd (false≢true p)
-none-first true true false d e f p q = absurd (false≢true p)
-none-first true true true false e f p q = absurd (false≢true q)
-none-first true true true true false f p q = absurd (false≢true q)
-none-first true true true true true false p q = absurd (false≢true q)
-none-first true true true true true true p q = refl
+-- ---- the six conditions
 
-first-not : (a b c d e f : Bool) → (not (a && (b && c)) || not (d && (e && f))) ≡ not (eqb (first a b c d e f) 0)
+-- the first of six tests that fails: one of them fails; if the first three pass, it is a later one
+first-not : (a b c d e f : Bool)
+    → (not (a && (b && c)) || not (d && (e && f))) ≡ not (eqb (cond a (cond b (cond c (cond d (cond e (cond f 0 6) 5) 4) 3) 2) 1) 0)
 first-not false b c d e f = refl
 first-not true false c d e f = refl
 first-not true true false d e f = refl
@@ -80,79 +89,94 @@ first-not true true true true false f = refl
 first-not true true true true true false = refl
 first-not true true true true true true = refl
 
--- the first is one
-fails-one : (test : ℕ → Bool) (j k : ℕ) → FirstFails test j → FirstFails test k → j ≡ k
-fails-one test j k p q = go (decLt j k) (decLt k j)
-  where
-    go : Dec (j < k) → Dec (k < j) → j ≡ k
-    go (yes l) m = absurd (false≢true (flip (p .fails) ∙ q .before j l))
-    go (no l) (yes m) = absurd (false≢true (flip (q .fails) ∙ p .before k m))
-    go (no l) (no m) = omega (arith, l, m)
-
--- some test fails only if the number is not 0
-first-some : (a b c d e f : Bool) (k : ℕ) → FirstFails (testOf a b c d e f) k → first a b c d e f ≡ 0 → ⊥
-first-some false b c d e f k p q = omega arith
-first-some true false c d e f k p q = omega arith
-first-some true true false d e f k p q = omega arith
-first-some true true true false e f k p q = omega arith
-first-some true true true true false f k p q = omega arith
-first-some true true true true true false k p q = omega arith
-first-some true true true true true true k p q = false≢true (flip (p .fails) ∙ pass (eqb k 1) (eqb k 2) (eqb k 3) (eqb k 4) (eqb k 5) (eqb k 6))
-  where
-    pass : (a b c d e f : Bool) → cond a true (cond b true (cond c true (cond d true (cond e true (cond f true true))))) ≡ true
-    pass true b c d e f = refl
-    pass false true c d e f = refl
-    pass false false true d e f = refl
-    pass false false false true e f = refl
-    pass false false false false true f = refl
-    pass false false false false false true = refl
-    pass false false false false false false = refl
-
--- ---- the six conditions
+first-later : (d e f : Bool) → let k : ℕ = cond d (cond e (cond f 0 6) 5) 4 in (k ≡ 0 → ⊥) → 4 ≤ k
+first-later false e f h = omega arith
+first-later true false f h = omega arith
+first-later true true false h = omega arith
+first-later true true true h = absurd (h refl)
 
 module _ (v : View) where
-  -- condition k of a domino in a set, 1 to 6; other numbers ask nothing
-  abbrev pub condition : Dominoes → ℕ → ℕ → ℕ → ℕ → Bool
-  condition D A R B = testOf (kb v A) (ex v A R B) (uni v A R B) (delex v D A) (deluni v D A) (sym v D A R B)
+  -- the defect, condition by condition
+  pub defect-cases : (D : Dominoes) (A R B : ℕ)
+      → defect v D A R B ≡ cond (kb v A) (cond (ex v A R B) (cond (uni v A R B)
+      (cond (delex v D A) (cond (deluni v D A) (cond (sym v D A R B) 0 6) 5) 4) 3) 2) 1
+  unfolding defect firstFailing condition
+  defect-cases D A R B = refl
 
   -- a defect is the number of the first condition that fails, and no defect is that none fails
   pub defect-le : (D : Dominoes) (A R B : ℕ) → defect v D A R B ≤ 6
   unfolding defect
-  defect-le D A R B = first-le (kb v A) (ex v A R B) (uni v A R B) (delex v D A) (deluni v D A) (sym v D A R B)
+  defect-le D A R B = first-in (condition v D A R B) (λ (k : ℕ). k ≤ 6) order (omega arith) order-le
 
-  pub defect-first : (D : Dominoes) (A R B k : ℕ) → 0 < k → defect v D A R B ≡ k → FirstFails (condition D A R B) k
+  pub defect-first : (D : Dominoes) (A R B k : ℕ) → 0 < k → defect v D A R B ≡ k → FirstFails (condition v D A R B) order k
   unfolding defect
-  defect-first D A R B = first-fails (kb v A) (ex v A R B) (uni v A R B) (delex v D A) (deluni v D A) (sym v D A R B)
+  defect-first D A R B = first-fails (condition v D A R B) order
 
-  pub first-defect : (D : Dominoes) (A R B k : ℕ) → FirstFails (condition D A R B) k → defect v D A R B ≡ k
+  pub first-defect : (D : Dominoes) (A R B k : ℕ) → FirstFails (condition v D A R B) order k → defect v D A R B ≡ k
   unfolding defect
-  first-defect D A R B k p =
-      fails-one (condition D A R B) (defect v D A R B) k (defect-first D A R B (defect v D A R B) some-fails refl) p
-    where
-      some-fails : 0 < defect v D A R B
-      some-fails = go (decLt 0 (defect v D A R B))
-        where
-          go : Dec (0 < defect v D A R B) → 0 < defect v D A R B
-          go (yes l) = l
-          go (no l) = absurd (first-some (kb v A) (ex v A R B) (uni v A R B) (delex v D A) (deluni v D A) (sym v D A R B) k p (omega (arith, l)))
+  first-defect D A R B = fails-first (condition v D A R B) order
+
+  pub defect-passes : (D : Dominoes) (A R B : ℕ) → defect v D A R B ≡ 0 → All (λ (k : ℕ). condition v D A R B k ≡ true) order
+  unfolding defect
+  defect-passes D A R B = first-none (condition v D A R B) order order-some
+
+  pub passes-defect : (D : Dominoes) (A R B : ℕ) → All (λ (k : ℕ). condition v D A R B k ≡ true) order → defect v D A R B ≡ 0
+  unfolding defect
+  passes-defect D A R B = none-first (condition v D A R B) order
 
   pub defect-none : (D : Dominoes) (A R B : ℕ) → defect v D A R B ≡ 0 → (initially v A R B ≡ true) × (sustained v D A R B ≡ true)
-  unfolding defect initially sustained
-  defect-none D A R B = first-none (kb v A) (ex v A R B) (uni v A R B) (delex v D A) (deluni v D A) (sym v D A R B)
+  unfolding condition initially sustained
+  defect-none D A R B q =
+      let p = defect-passes D A R B q in (
+        and-i (p .0) (and-i (p .1 .0) (p .1 .1 .0)),
+        and-i (p .1 .1 .1 .0) (and-i (p .1 .1 .1 .1 .0) (p .1 .1 .1 .1 .1 .0)),
+      )
 
   pub none-defect : (D : Dominoes) (A R B : ℕ) → initially v A R B ≡ true → sustained v D A R B ≡ true → defect v D A R B ≡ 0
-  unfolding defect initially sustained
-  none-defect D A R B = none-first (kb v A) (ex v A R B) (uni v A R B) (delex v D A) (deluni v D A) (sym v D A R B)
+  unfolding condition initially sustained
+  none-defect D A R B p q =
+      let i = and-r (kb v A) (ex v A R B && uni v A R B) p in
+      let s = and-r (delex v D A) (deluni v D A && sym v D A R B) q in
+      passes-defect D A R B (
+        and-l (kb v A) (ex v A R B && uni v A R B) p,
+        (
+          and-l (ex v A R B) (uni v A R B) i,
+          (
+            and-r (ex v A R B) (uni v A R B) i,
+            (
+              and-l (delex v D A) (deluni v D A && sym v D A R B) q,
+              (
+                and-l (deluni v D A) (sym v D A R B) s,
+                (and-r (deluni v D A) (sym v D A R B) s, tt),
+              ),
+            ),
+          ),
+        ),
+      )
+
+  -- what meets the conditions of the initial set fails another, if any
+  pub defect-later : (D : Dominoes) (A R B : ℕ) → initially v A R B ≡ true → (defect v D A R B ≡ 0 → ⊥) → 4 ≤ defect v D A R B
+  unfolding initially
+  defect-later D A R B p =
+      let i = and-r (kb v A) (ex v A R B && uni v A R B) p in
+      rw (
+        defect-cases D A R B,
+        and-l (kb v A) (ex v A R B && uni v A R B) p,
+        and-l (ex v A R B) (uni v A R B) i,
+        and-r (ex v A R B) (uni v A R B) i,
+      )
+      (first-later (delex v D A) (deluni v D A) (sym v D A R B))
 
   -- defective is to have a defect
   pub defective-is : (S : Set) (n : ℕ) → defective v S n ≡ not (eqb (defectAt v S n) 0)
-  unfolding initial lacks defectAt defect initially sustained
+  unfolding initial lacks defectAt initially sustained
   defective-is S n =
       let D : Dominoes = numbered (v .parts) (v .roles) S in
       let A : ℕ = leftOf (v .parts) (v .roles) n in
       let R : ℕ = rolesOf (v .parts) (v .roles) n in
       let B : ℕ = rightOf (v .parts) n in
       first-not (kb v A) (ex v A R B) (uni v A R B) (delex v D A) (deluni v D A) (sym v D A R B)
+      ∙ ap (λ (k : ℕ). not (eqb k 0)) (flip (defect-cases D A R B))
 
   -- ---- witnesses
 

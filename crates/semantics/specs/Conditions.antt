@@ -1,11 +1,13 @@
 -- The six conditions (01, "Pairings and the six conditions"; 002, Definition 5). Assumes nothing: these are definitions.
-use Prim.Native.Nat.{ℕ, _+_, _*_, _^_}
+use Prim.Native.Nat.{ℕ, _*_, _^_}
 use mathlib.Core.Path.{_≡_}
-use mathlib.Core.Bool.{Bool, true, not, _&&_, _||_, cond}
+use mathlib.Core.Bool.{Bool, true, false, not, _&&_, _||_, cond}
+use mathlib.Core.List.{List, [], _∷_, _++_}
 use lib.Dec.{eqb, ltb}
 use Rattle.bitset.specs.Bits.{Set, bit}
 use Rattle.elimination.specs.Sets.{every, some}
 use Rattle.elimination.specs.Elimination.{defectiveBy, canonical}
+use Rattle.tbox.specs.Bounds.{All}
 use Rattle.semantics.specs.Dominoes.{Dominoes, Domino, total, leftOf, rolesOf, rightOf, inverse, numbered}
 
 -- what the conditions look at: the number of parts and of roles; of part k its kind (2 existential, 3 universal), whether its
@@ -17,6 +19,23 @@ pub record View : Type 0 where
   pub holds : ℕ → ℕ → Bool
   pub has : ℕ → ℕ → Bool
   pub good : ℕ → Bool
+
+-- 01's order
+abbrev pub order : List ℕ
+order = 1 ∷ 2 ∷ 3 ∷ 4 ∷ 5 ∷ 6 ∷ []
+
+-- the first number of a list whose test fails, 0 if none does
+unfoldable pub firstFailing : (ℕ → Bool) → List ℕ → ℕ
+firstFailing test [] = 0
+firstFailing test (k ∷ ks) = cond (test k) (firstFailing test ks) k
+
+-- the same in other words: k fails, and every number before it in the list passes
+pub record FirstFails (test : ℕ → Bool) (ks : List ℕ) (k : ℕ) : Type 0 where
+  pub before : List ℕ
+  pub after : List ℕ
+  pub stands : ks ≡ before ++ (k ∷ after)
+  pub pass : All (λ (j : ℕ). test j ≡ true) before
+  pub fails : test k ≡ false
 
 module _ (v : View) where
   -- 1, kb: "each flattened rule, with marks in A true and the others false, comes out true"
@@ -48,11 +67,16 @@ module _ (v : View) where
   unfoldable pub sym : Dominoes → ℕ → ℕ → ℕ → Bool
   sym D A R B = D B (inverse (v .roles) R) A
 
-  -- the number of the first condition that fails, 0 for none: "A pairing is loose in a set if it fails one of"
+  -- condition k, 1 to 6; other numbers ask nothing
+  unfoldable pub condition : Dominoes → ℕ → ℕ → ℕ → ℕ → Bool
+  condition D A R B k =
+      cond (eqb k 1) (kb A) (cond (eqb k 2) (ex A R B) (cond (eqb k 3) (uni A R B)
+      (cond (eqb k 4) (delex D A) (cond (eqb k 5) (deluni D A) (cond (eqb k 6) (sym D A R B) true)))))
+
+  -- the number of the first condition that fails, 0 for none: "A pairing is loose in a set if it fails one of"; 02, N2: "the
+  -- number, 1 to 6, of the first condition that fails in 01's order"
   unfoldable pub defect : Dominoes → ℕ → ℕ → ℕ → ℕ
-  defect D A R B =
-      cond (kb A) (cond (ex A R B) (cond (uni A R B)
-      (cond (delex D A) (cond (deluni D A) (cond (sym D A R B) 0 6) 5) 4) 3) 2) 1
+  defect D A R B = firstFailing (condition D A R B) order
 
   -- conditions 1 to 3: "The opening set is all pairings that meet 1 to 3."
   unfoldable pub initially : ℕ → ℕ → ℕ → Bool
@@ -90,9 +114,14 @@ module _ (v : View) where
       not (sustained (numbered (v .parts) (v .roles) S)
       (leftOf (v .parts) (v .roles) n) (rolesOf (v .parts) (v .roles) n) (rightOf (v .parts) n))
 
-  -- is domino n defective in the set; the number of its first failing condition
+  -- is domino n defective in the set; its condition k; the number of its first failing condition
   abbrev pub defective : Set → ℕ → Bool
   defective = defectiveBy initial lacks
+
+  abbrev pub conditionAt : Set → ℕ → ℕ → Bool
+  conditionAt S n =
+      condition (numbered (v .parts) (v .roles) S)
+      (leftOf (v .parts) (v .roles) n) (rolesOf (v .parts) (v .roles) n) (rightOf (v .parts) n)
 
   unfoldable pub defectAt : Set → ℕ → ℕ
   defectAt S n =

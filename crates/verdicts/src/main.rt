@@ -80,7 +80,11 @@ fn judge(sheet: &[u8], set: &mut [u64; 4]) {
 fn verdict(v: Verdict) {
     match v {
         Verdict::Absent => text(b" Absent\n"),
-        Verdict::Struck => text(b" Struck\n"),
+        Verdict::Struck(k) => {
+            text(b" Struck");
+            number(k as u64);
+            text(b"\n");
+        }
         Verdict::Kept => text(b" Kept\n"),
     }
 }

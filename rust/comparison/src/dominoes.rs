@@ -57,8 +57,10 @@ pub struct Tally {
     pub refused: [u64; 14],
     pub absent: u64,
     pub kept: u64,
-    /// Strikes that struck, by the number of the defect.
+    /// Strikes that struck, by the condition told.
     pub struck: [u64; 7],
+    /// Of these, by the condition told and a later one that fails too.
+    pub struck_and: [[u64; 7]; 7],
     /// Sheets by parts and roles together.
     pub sizes: [u64; 13],
 }
@@ -99,9 +101,22 @@ impl Tally {
             Ok(Answer::Strike(strike)) => match strike.verdict {
                 Verdict::Absent => self.absent += 1,
                 Verdict::Kept => self.kept += 1,
-                Verdict::Struck => self.struck[defect(sheet, before, strike.number)] += 1,
+                Verdict::Struck { condition } => {
+                    self.count_struck(condition, sheet, before, strike.number);
+                }
             },
             Ok(_) => {}
+        }
+    }
+
+    fn count_struck(&mut self, condition: u8, sheet: &[u8], before: &[u64], number: u64) {
+        let told = usize::from(condition);
+        self.struck[told] += 1;
+        let conditions = Conditions::of(&flatten(sheet).expect("a sheet that was accepted"));
+        let domino = conditions.shape.domino(number);
+        for later in condition + 1..=6 {
+            let fails = conditions.fails(before, domino, later);
+            self.struck_and[told][usize::from(later)] += u64::from(fails);
         }
     }
 
@@ -239,13 +254,6 @@ fn row_numbers(set: &[u64], shape: Shape, random: &mut Random) -> [u64; 4] {
     })
 }
 
-/// The defect of the domino of that number.
-fn defect(sheet: &[u8], set: &[u64], number: u64) -> usize {
-    let conditions = Conditions::of(&flatten(sheet).expect("a sheet that was accepted"));
-    let domino = conditions.shape.domino(number);
-    conditions.defect(set, domino).map_or(0, usize::from)
-}
-
 /// The number of a member from a random place on, if there is one.
 fn member(set: &[u64], dominoes: u64, random: &mut Random) -> u64 {
     let start = random.word() % dominoes;
@@ -261,7 +269,13 @@ impl fmt::Display for Tally {
             self.comparisons, self.sheets, self.met, self.unmet, self.unmet_in_steps
         )?;
         write!(f, "; strikes absent: {} kept: {}", self.absent, self.kept)?;
-        list(f, " struck by defect", &self.struck)?;
+        list(f, " struck by condition", &self.struck)?;
+        let pairs = (1..)
+            .zip(&self.struck_and[1..])
+            .map(|(told, also)| &also[told + 1..]);
+        if let Some(rarest) = pairs.flatten().min().filter(|&&rarest| rarest > 0) {
+            write!(f, "; each two conditions failing at once: {rarest} or more")?;
+        }
         list(f, "; refusals", &self.refused)?;
         list(f, "; sheets by c + L", &self.sizes)
     }

@@ -2,7 +2,10 @@
 
 use crate::dominoes::{Answer, Call, Tally};
 use crate::random::Random;
+use crate::worked::Before;
 use crate::{damage, few_axioms, made_up, reading, sequences, worked, Judging, Reading};
+use reference::domino::remove;
+use reference::{Strike, Verdict};
 use std::io::{self, Write};
 use std::{env, fmt};
 
@@ -95,6 +98,18 @@ pub fn worked_numbers(engine: &impl Judging) {
         };
         assert_eq!(judgement, Ok(Answer::Judged(expected)), "{hex}");
     }
+    for (hex, before, number, verdict) in worked::STRUCK {
+        worked_strike(
+            engine,
+            &worked::from_hex(hex),
+            before,
+            Strike { number, verdict },
+        );
+    }
+    let mut set = [7; 1];
+    assert_eq!(engine.open(&worked::from_hex(worked::S1), &mut set), Ok(32));
+    let refusal = engine.strike(&worked::from_hex(worked::S1), &mut set, 64);
+    assert_eq!(refusal.map_err(|refusal| refusal.number), Err(11));
     let twelve = worked::from_hex(worked::TWELVE);
     let mut set = vec![7; 262_144];
     let judgement = engine.judge(&twelve, &mut set);
@@ -108,6 +123,20 @@ pub fn worked_numbers(engine: &impl Judging) {
         assert_eq!(engine.judge(&sheet, &mut set), Err(refusal), "{hex}");
         assert_eq!(set, [7; 8]);
     }
+}
+
+/// One strike: its verdict, and that it takes out that domino alone.
+fn worked_strike(engine: &impl Judging, sheet: &[u8], before: Before, strike: Strike) {
+    let mut set = [u64::MAX; 8];
+    if let Before::Opened = before {
+        engine.open(sheet, &mut set).expect("a worked sheet");
+    }
+    let mut after = set;
+    if let Verdict::Struck { .. } = strike.verdict {
+        remove(&mut after, strike.number);
+    }
+    assert_eq!(engine.strike(sheet, &mut set, strike.number), Ok(strike));
+    assert_eq!(set, after, "{strike:?}");
 }
 
 /// Made-up sheets whose parts and roles come to at most 7.
@@ -129,6 +158,10 @@ pub fn small_dominoes(engine: &impl Judging) -> Tally {
     }
     assert!(4 * tally.unmet >= tally.sheets && 10 * tally.unmet_in_steps >= tally.sheets);
     assert!(tally.struck[1..].iter().all(|&count| count >= 500));
+    for (told, also) in (1..).zip(&tally.struck_and[1..]) {
+        let all_seen = also[told + 1..].iter().all(|&count| count >= 20);
+        assert!(all_seen, "struck by {told}, a later one failing: {also:?}");
+    }
     tally
 }
 
@@ -205,5 +238,8 @@ pub fn listed_calls(engine: &impl Judging) -> Tally {
         let passes = if size <= 3 { 64 } else { 20 };
         sequences::compare(&mut tally, engine, &sheet, passes, &mut random);
     }
+    // What was opened meets the conditions 1 to 3 for good.
+    assert_eq!(tally.struck[..4], [0; 4]);
+    assert!(tally.struck[4..].iter().all(|&count| count >= 500));
     tally
 }

@@ -2,10 +2,16 @@
 
 pub use crate::hex::from_hex;
 
+use reference::Verdict;
+
 /// A sheet that is judged: hex, parts, opening, survivors, met.
 pub type Judged = (&'static str, u64, u64, u64, bool);
 
 pub const S1: &str = "01 10 00 03 00 07 01 02 20 00 03";
+pub const S3: &str = "01 10 00 03 00 07 01 02 20 00 03 11 00 02 08 05 06 20 02 07";
+pub const S4: &str = "10 00 01 08 00 01 02 20 02 03";
+pub const S5: &str = "01 03 00 10 00 08 02 00 06 01 03 20 00 04";
+pub const S6: &str = "03 00 10 00 04 00 07 01 02 20 00 03";
 
 /// S0 to S6, then the sheet of one name.
 pub const JUDGED: [Judged; 8] = [
@@ -18,17 +24,34 @@ pub const JUDGED: [Judged; 8] = [
         0,
         false,
     ),
-    (
-        "01 10 00 03 00 07 01 02 20 00 03 11 00 02 08 05 06 20 02 07",
-        3,
-        64,
-        0,
-        false,
-    ),
-    ("10 00 01 08 00 01 02 20 02 03", 1, 8, 0, false),
-    ("01 03 00 10 00 08 02 00 06 01 03 20 00 04", 2, 48, 16, true),
-    ("03 00 10 00 04 00 07 01 02 20 00 03", 3, 144, 85, true),
+    (S3, 3, 64, 0, false),
+    (S4, 1, 8, 0, false),
+    (S5, 2, 48, 16, true),
+    (S6, 3, 144, 85, true),
     ("03 00", 1, 4, 4, true),
+];
+
+/// What a set holds before a strike.
+#[derive(Clone, Copy, Debug)]
+pub enum Before {
+    Opened,
+    Full,
+}
+
+/// A strike: hex, the set before, the number, the verdict.
+pub type Struck = (&'static str, Before, u64, Verdict);
+
+/// Document 01's strikes on S1 opened, then one by each of the conditions 1 to
+/// 5.
+pub const STRUCK: [Struck; 8] = [
+    (S1, Before::Opened, 32, Verdict::Struck { condition: 6 }),
+    (S1, Before::Opened, 2, Verdict::Absent),
+    (S1, Before::Opened, 34, Verdict::Kept),
+    (S1, Before::Full, 0, Verdict::Struck { condition: 1 }),
+    (S6, Before::Full, 12, Verdict::Struck { condition: 2 }),
+    (S3, Before::Full, 208, Verdict::Struck { condition: 3 }),
+    (S4, Before::Opened, 8, Verdict::Struck { condition: 4 }),
+    (S5, Before::Opened, 16, Verdict::Struck { condition: 5 }),
 ];
 
 /// A sheet that is refused: hex, number, place.

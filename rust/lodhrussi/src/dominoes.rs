@@ -1,4 +1,4 @@
-use crate::{ffi, Counts, Refusal};
+use crate::{ffi, Condition, Counts, Refusal};
 
 /// What a strike found.
 #[derive(Clone, Copy, Debug, PartialEq, Eq, Hash)]
@@ -6,17 +6,23 @@ pub enum Verdict {
     /// The domino is not in the set.
     Absent,
     /// It was in the set and defective, and is now out.
-    Struck,
+    Struck {
+        /// The first condition that it failed.
+        condition: Condition,
+    },
     /// It is in the set and not defective.
     Kept,
 }
 
 impl Verdict {
-    /// The verdict that the library answers as a number.
-    fn of(number: u64) -> Self {
+    /// The verdict that the library answers as a number; `condition` counts
+    /// for Struck alone.
+    fn of(number: u64, condition: u64) -> Self {
         match number {
             0 => Verdict::Absent,
-            1 => Verdict::Struck,
+            1 => Verdict::Struck {
+                condition: Condition::of(condition),
+            },
             _ => Verdict::Kept,
         }
     }
@@ -89,11 +95,12 @@ pub fn open(sheet: &[u8], set: &mut [u64]) -> Result<u64, Refusal> {
     Ok(size)
 }
 
-/// Takes the domino of that number out of the set if it is defective there.
+/// Takes the domino of that number out of the set if it is defective there, and
+/// tells the first condition that failed.
 ///
-/// A domino is defective if it fails one of the six conditions: it is against
-/// the sheet itself, or a witness that its left label needs or its own converse
-/// is not in the set. The set may be any; no other domino is taken out.
+/// A domino is defective if it fails a [`Condition`]: it is against the sheet
+/// itself, or a witness that its left label needs or its own converse is not in
+/// the set. The set may be any; no other domino is taken out.
 ///
 /// # Errors
 ///
@@ -102,19 +109,20 @@ pub fn open(sheet: &[u8], set: &mut [u64]) -> Result<u64, Refusal> {
 /// keeps the whole set.
 ///
 /// ```
-/// use lodhrussi::Verdict;
+/// use lodhrussi::{Condition, Verdict};
 ///
 /// let sheet = [1, 0x10, 0, 3, 0, 7, 1, 2, 0x20, 0, 3];
 /// let mut set = [0; 1];
 /// lodhrussi::open(&sheet, &mut set)?;
-/// assert_eq!(lodhrussi::strike(&sheet, &mut set, 32)?.verdict, Verdict::Struck);
+/// let struck = Verdict::Struck { condition: Condition::Sym };
+/// assert_eq!(lodhrussi::strike(&sheet, &mut set, 32)?.verdict, struck);
 /// assert_eq!(lodhrussi::strike(&sheet, &mut set, 32)?.verdict, Verdict::Absent);
 /// assert_eq!(lodhrussi::strike(&sheet, &mut set, 34)?.verdict, Verdict::Kept);
 /// assert_eq!(lodhrussi::strike(&sheet, &mut set, 64).unwrap_err().number, 11);
 /// # Ok::<(), lodhrussi::Refusal>(())
 /// ```
 pub fn strike(sheet: &[u8], set: &mut [u64], number: u64) -> Result<Strike, Refusal> {
-    let (mut place, mut verdict) = (0, 0);
+    let (mut place, mut verdict, mut condition) = (0, 0, 0);
     // SAFETY: as in `open`.
     let refused = unsafe {
         ffi::lodhrussi_strike(
@@ -125,10 +133,11 @@ pub fn strike(sheet: &[u8], set: &mut [u64], number: u64) -> Result<Strike, Refu
             number,
             &raw mut place,
             &raw mut verdict,
+            &raw mut condition,
         )
     };
     Refusal::check(refused, place)?;
-    let verdict = Verdict::of(verdict);
+    let verdict = Verdict::of(verdict, condition);
     Ok(Strike { number, verdict })
 }
 

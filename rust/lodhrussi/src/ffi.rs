@@ -1,6 +1,6 @@
 //! The functions of the static library. Each answers the number of a refusal,
 //! or 0; it writes `place` only on a refusal, all else only without one (refusal
-//! 13 leaves the set settled).
+//! 13 leaves the set settled), and `condition` only when struck.
 
 extern "C" {
     pub fn lodhrussi_read(
@@ -29,7 +29,7 @@ extern "C" {
         size: *mut u64,
     ) -> u64;
 
-    /// The verdict is 0 Absent, 1 Struck, 2 Kept.
+    /// The verdict is 0 Absent, 1 Struck, 2 Kept; the condition 1 to 6.
     pub fn lodhrussi_strike(
         sheet: *const u8,
         n: usize,
@@ -38,6 +38,7 @@ extern "C" {
         number: u64,
         place: *mut u64,
         verdict: *mut u64,
+        condition: *mut u64,
     ) -> u64;
 
     pub fn lodhrussi_settle(

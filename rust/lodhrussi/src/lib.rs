@@ -32,10 +32,12 @@
 //! # Ok::<(), lodhrussi::Refusal>(())
 //! ```
 
+mod condition;
 mod dominoes;
 mod ffi;
 mod refusal;
 
+pub use condition::Condition;
 pub use dominoes::{judge, open, settle, strike, words_needed, Judgement, Strike, Verdict};
 pub use refusal::Refusal;
 

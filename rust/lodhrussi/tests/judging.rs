@@ -16,7 +16,9 @@ fn refusal(refusal: lodhrussi::Refusal) -> Refusal {
 fn verdict(verdict: lodhrussi::Verdict) -> Verdict {
     match verdict {
         lodhrussi::Verdict::Absent => Verdict::Absent,
-        lodhrussi::Verdict::Struck => Verdict::Struck,
+        lodhrussi::Verdict::Struck { condition } => Verdict::Struck {
+            condition: condition.number() as u8,
+        },
         lodhrussi::Verdict::Kept => Verdict::Kept,
     }
 }

@@ -19,8 +19,8 @@ cast-result c = search needs
 enum-known-a-2 : tie.Need-enum-known-a-2
 enum-known-a-2 c = search needs
 
-verdict-number-requires : tie.Need-verdict-number-requires
-verdict-number-requires c κs = search needs
+put-verdict-requires : tie.Need-put-verdict-requires
+put-verdict-requires c κs = search needs
 
 same-length : tie.Need-same-length
 same-length c = search needs
@@ -30,7 +30,7 @@ unfolding strikeNumbers placeOut
 returns c =
     let h = c .before .before .before .before .before .strike .ensures in
     let e = said strikeNumbers _ _ _ (c .before .a .given .1) (h .answer) in
-    (ap resultOut e, (place-said _ _ _ e, (value-said 1 _ _ _ e, h .set)))
+    (ap resultOut e, (place-said _ _ _ e, (value-said 1 _ _ _ e, (value-said 2 _ _ _ e, h .set))))
 
 same-length-2 : tie.Need-same-length-2
 same-length-2 c = search needs
@@ -38,9 +38,10 @@ same-length-2 c = search needs
 returns-2 : tie.Need-returns-2
 unfolding strikeNumbers placeOut
 returns-2 c =
-    let h = c .before .before .before .before .before .before .strike .ensures in
-    let e = said strikeNumbers _ _ _ (c .before .before .a2 .given .1) (h .answer) in
-    (ap resultOut e, (place-said _ _ _ e, (c .verdict-number .ensures ∙ value-said 1 _ _ _ e, h .set)))
+    let h = c .before .before .before .before .before .before .before .before .strike .ensures in
+    let e = said strikeNumbers _ _ _ (c .before .before .before .before .a2 .given .1) (h .answer) in
+    let w = c .put-verdict .ensures in
+    (ap resultOut e, (place-said _ _ _ e, (w .0 ∙ value-said 1 _ _ _ e, (w .1 ∙ value-said 2 _ _ _ e, h .set))))
 
 pub lodhrussi-strike-spec : {M : Type 1} → statement M
 lodhrussi-strike-spec =
@@ -50,7 +51,7 @@ lodhrussi-strike-spec =
     enum-known-a
     cast-result
     enum-known-a-2
-    verdict-number-requires
+    put-verdict-requires
     same-length
     returns
     same-length-2

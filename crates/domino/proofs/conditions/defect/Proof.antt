@@ -5,17 +5,6 @@ use Rattle.domino.proofs.Defects.{at-of, label-few, sets-few, row-here,
 use Rattle.domino.proofs.Defects.{fails-1, fails-2, fails-3, fails-row, fails-6, fails-none}
 use Rattle.domino.proofs.conditions.defect.Statement.{statement}
 use Rattle.domino.proofs.conditions.defect.Tie as tie
-use Rattle.domino.proofs.conditions.defect.Reads as reads
-use Rattle.domino.proofs.conditions.defect.Lts as lts
-use Rattle.bitset.proofs.member.Reads as member-reads
-use Rattle.domino.proofs.conditions.fits.Reads as fits-reads
-use Rattle.domino.proofs.conditions.is_good.Reads as is-good-reads
-use Rattle.domino.proofs.conditions.row_defect.Reads as row-defect-reads
-use Rattle.domino.proofs.numbers.index.Reads as index-reads
-use Rattle.domino.proofs.numbers.inverse.Reads as inverse-reads
-use Rattle.domino.proofs.numbers.left_of.Reads as left-of-reads
-use Rattle.domino.proofs.numbers.right_of.Reads as right-of-reads
-use Rattle.domino.proofs.numbers.roles_of.Reads as roles-of-reads
 
 left-of-requires : tie.Need-left-of-requires
 left-of-requires c κs = search needs
@@ -174,7 +163,7 @@ returns-5 c =
     let t =
     at-of (o .args .p .count) (o .args .p .roles) (o .args .n) _ _ _ (h .before .before .left-of .ensures)
     (h .before .roles-of .ensures) (h .right-of .ensures) in
-    fails-6 (o .args .p) (o .args .role .now) (o .args .good .now) (look (o .args .set .now)) (o .args .n) _ _ _ t
+    fails-none (o .args .p) (o .args .role .now) (o .args .good .now) (look (o .args .set .now)) (o .args .n) _ _ _ t
     (f1 .before .is-good .result) (f1 .before .is-good .ensures) (f1 .if1 .left)
     (f2 .before .fits2 .result) (f2 .before .fits2 .ensures) (f2 .if2 .left)
     (f3 .before .fits3 .result) (f3 .before .fits3 .ensures) (f3 .if3 .left)
@@ -192,7 +181,7 @@ returns-6 c =
     let t =
     at-of (o .args .p .count) (o .args .p .roles) (o .args .n) _ _ _ (h .before .before .left-of .ensures)
     (h .before .roles-of .ensures) (h .right-of .ensures) in
-    fails-none (o .args .p) (o .args .role .now) (o .args .good .now) (look (o .args .set .now)) (o .args .n) _ _ _ t
+    fails-6 (o .args .p) (o .args .role .now) (o .args .good .now) (look (o .args .set .now)) (o .args .n) _ _ _ t
     (f1 .before .is-good .result) (f1 .before .is-good .ensures) (f1 .if1 .left)
     (f2 .before .fits2 .result) (f2 .before .fits2 .ensures) (f2 .if2 .left)
     (f3 .before .fits3 .result) (f3 .before .fits3 .ensures) (f3 .if3 .left)
