@@ -18,6 +18,8 @@ fn main() {
     );
     println!("cargo:rustc-link-search=native={}", folder.display());
     println!("cargo:rustc-link-lib=static=capi");
+    // For the test of the C header.
+    println!("cargo:rustc-env=LODHRUSSI_LIBRARY={}", library.display());
 }
 
 fn folder() -> PathBuf {

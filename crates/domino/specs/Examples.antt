@@ -29,12 +29,26 @@ answered r =
     row (r .sheet) (readSays s) (r .lent) (openSays s (r .lent)) (openLeaves s (r .lent)) (settleSays s (openLeaves s (r .lent)))
     (judgeSays s (r .lent)) (judgeLeaves s (r .lent))
 
--- what is lent: a full word, and a word that no call may touch; four full words and one more
+-- words, and one more that no call may touch
+abbrev lend : List ℕ → List ℕ
+lend ws = ws ++ (5 ∷ [])
+
+-- what is lent: a full word; four full words
 abbrev one : List ℕ
-one = 0xffffffffffffffff ∷ 5 ∷ []
+one = lend (0xffffffffffffffff ∷ [])
 
 abbrev four : List ℕ
-four = 0xffffffffffffffff ∷ 0xffffffffffffffff ∷ 0xffffffffffffffff ∷ 0xffffffffffffffff ∷ 5 ∷ []
+four = lend (0xffffffffffffffff ∷ 0xffffffffffffffff ∷ 0xffffffffffffffff ∷ 0xffffffffffffffff ∷ [])
+
+-- S1, S4 and S5 opened
+abbrev opened1 : List ℕ
+opened1 = 0xffffffff00000000 ∷ []
+
+abbrev opened4 : List ℕ
+opened4 = 0xff00 ∷ []
+
+abbrev opened5 : List ℕ
+opened5 = 0xffffffffffff0000 ∷ []
 
 -- T, L and c
 abbrev counts : ℕ → ℕ → ℕ → List ℕ
@@ -42,7 +56,7 @@ counts t l c = 0 ∷ 0 ∷ t ∷ l ∷ c ∷ []
 
 -- the opening size, the survivors, and whether it is met; the words before the last, opened and judged
 abbrev works : List ℕ → List ℕ → List ℕ → ℕ → ℕ → ℕ → List ℕ → List ℕ → Row
-works s r l o n m p q = row s r l (0 ∷ 0 ∷ o ∷ []) (p ++ (5 ∷ [])) (0 ∷ 0 ∷ n ∷ []) (0 ∷ 0 ∷ o ∷ n ∷ m ∷ []) (q ++ (5 ∷ []))
+works s r l o n m p q = row s r l (0 ∷ 0 ∷ o ∷ []) (lend p) (0 ∷ 0 ∷ n ∷ []) (0 ∷ 0 ∷ o ∷ n ∷ m ∷ []) (lend q)
 
 -- the set is too short; every call is refused as read is
 abbrev short : List ℕ → List ℕ → List ℕ → Row
@@ -55,13 +69,13 @@ abbrev pub table : List Row
 table =
     works [] (counts 0 0 0) one 1 1 1 (1 ∷ []) (1 ∷ []) ∷
     short [] (counts 0 0 0) [] ∷
-    works s1 (counts 1 1 2) one 32 16 1 (0xffffffff00000000 ∷ []) (0xcccccccc00000000 ∷ []) ∷
+    works s1 (counts 1 1 2) one 32 16 1 opened1 (0xcccccccc00000000 ∷ []) ∷
     short s1 (counts 1 1 2) [] ∷
     works s2 (counts 1 1 2) one 16 0 0 (0xffff00000000 ∷ []) (0 ∷ []) ∷
     works s3 (counts 1 1 3) four 64 0 0 (0 ∷ 0xffffffff ∷ 0 ∷ 0xffff0000ffff ∷ []) (0 ∷ 0 ∷ 0 ∷ 0 ∷ []) ∷
     short s3 (counts 1 1 3) one ∷
-    works s4 (counts 0 1 1) one 8 0 0 (0xff00 ∷ []) (0 ∷ []) ∷
-    works s5 (counts 1 1 2) one 48 16 1 (0xffffffffffff0000 ∷ []) (0xcccccccc00000000 ∷ []) ∷
+    works s4 (counts 0 1 1) one 8 0 0 opened4 (0 ∷ []) ∷
+    works s5 (counts 1 1 2) one 48 16 1 opened5 (0xcccccccc00000000 ∷ []) ∷
     works s6 (counts 1 1 3) four 144 85 1 (0xfff0fff ∷ 0xffffffffffffffff ∷ 0xfff0fff ∷ 0xffffffff ∷ [])
     (0xd5d0d5d ∷ 0x5d5d5d5d5d5d5d5d ∷ 0xc4c0d5d ∷ 0x4c4c5d5d ∷ []) ∷
     works (0x03 ∷ 0x00 ∷ []) (counts 1 0 1) one 4 4 1 (0xf ∷ []) (0xf ∷ []) ∷
@@ -90,31 +104,21 @@ tried r =
     let s = readKb limit (r .sheet) in
     strike (r .sheet) (r .words) (r .number) (strikeSays s (r .number) (r .words)) (strikeLeaves s (r .number) (r .words))
 
--- S1, S4 and S5 opened, as in the table above
-abbrev opened1 : List ℕ
-opened1 = 0xffffffff00000000 ∷ 5 ∷ []
-
-abbrev opened4 : List ℕ
-opened4 = 0xff00 ∷ 5 ∷ []
-
-abbrev opened5 : List ℕ
-opened5 = 0xffffffffffff0000 ∷ 5 ∷ []
-
 -- "Strikes on S1 opened: 32 Struck; 2 Absent; 34 Kept; 64 refused 11."; and one strike by each of the conditions 1 to 5: those of
--- opening on full words, the others on sets just opened
+-- opening on full words, the others on words that the table above has as opened
 abbrev pub strikes : List Strike
 strikes =
-    strike s1 opened1 32 (0 ∷ 0 ∷ 32 ∷ 1 ∷ 6 ∷ []) (0xfffffffe00000000 ∷ 5 ∷ []) ∷
-    strike s1 opened1 2 (0 ∷ 0 ∷ 2 ∷ 0 ∷ []) opened1 ∷
-    strike s1 opened1 34 (0 ∷ 0 ∷ 34 ∷ 2 ∷ []) opened1 ∷
-    strike s1 opened1 64 (11 ∷ 0 ∷ []) opened1 ∷
-    strike s1 one 0 (0 ∷ 0 ∷ 0 ∷ 1 ∷ 1 ∷ []) (0xfffffffffffffffe ∷ 5 ∷ []) ∷
+    strike s1 (lend opened1) 32 (0 ∷ 0 ∷ 32 ∷ 1 ∷ 6 ∷ []) (lend (0xfffffffe00000000 ∷ [])) ∷
+    strike s1 (lend opened1) 2 (0 ∷ 0 ∷ 2 ∷ 0 ∷ []) (lend opened1) ∷
+    strike s1 (lend opened1) 34 (0 ∷ 0 ∷ 34 ∷ 2 ∷ []) (lend opened1) ∷
+    strike s1 (lend opened1) 64 (11 ∷ 0 ∷ []) (lend opened1) ∷
+    strike s1 one 0 (0 ∷ 0 ∷ 0 ∷ 1 ∷ 1 ∷ []) (lend (0xfffffffffffffffe ∷ [])) ∷
     strike s6 four 12 (0 ∷ 0 ∷ 12 ∷ 1 ∷ 2 ∷ [])
-    (0xffffffffffffefff ∷ 0xffffffffffffffff ∷ 0xffffffffffffffff ∷ 0xffffffffffffffff ∷ 5 ∷ []) ∷
+    (lend (0xffffffffffffefff ∷ 0xffffffffffffffff ∷ 0xffffffffffffffff ∷ 0xffffffffffffffff ∷ [])) ∷
     strike s3 four 208 (0 ∷ 0 ∷ 208 ∷ 1 ∷ 3 ∷ [])
-    (0xffffffffffffffff ∷ 0xffffffffffffffff ∷ 0xffffffffffffffff ∷ 0xfffffffffffeffff ∷ 5 ∷ []) ∷
-    strike s4 opened4 8 (0 ∷ 0 ∷ 8 ∷ 1 ∷ 4 ∷ []) (0xfe00 ∷ 5 ∷ []) ∷
-    strike s5 opened5 16 (0 ∷ 0 ∷ 16 ∷ 1 ∷ 5 ∷ []) (0xfffffffffffe0000 ∷ 5 ∷ []) ∷
+    (lend (0xffffffffffffffff ∷ 0xffffffffffffffff ∷ 0xffffffffffffffff ∷ 0xfffffffffffeffff ∷ [])) ∷
+    strike s4 (lend opened4) 8 (0 ∷ 0 ∷ 8 ∷ 1 ∷ 4 ∷ []) (lend (0xfe00 ∷ [])) ∷
+    strike s5 (lend opened5) 16 (0 ∷ 0 ∷ 16 ∷ 1 ∷ 5 ∷ []) (lend (0xfffffffffffe0000 ∷ [])) ∷
     []
 
 -- "c + L of 3 needs 1 word, of 9 needs 4,096 .., of 12 needs 262,144"

@@ -31,7 +31,7 @@ fn a_c_program() {
         .args(["-std=c99", "-pedantic", "-Wall", "-Wextra", "-Werror", "-I"])
         .arg(at("include"))
         .arg(at("rust/lodhrussi/tests/header/worked.c"))
-        .arg(at("target/staticlib/libcapi.a"))
+        .arg(env!("LODHRUSSI_LIBRARY"))
         .arg("-o")
         .arg(&program)
         .status()
