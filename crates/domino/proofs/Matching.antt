@@ -54,6 +54,11 @@ word-place c l a words at i count w f six k e h g =
     let s = labels-words c count six e in
     (omega arith, omega arith, omega arith)
 
+-- where it starts in the run, as the machine's shift has it
+pub shifted-word : (c l a words at i count : ℕ) → Fits c l a words → 6 ≤ c → at + 2 ^ c ≤ total c l → count ≡ 2 ^ (c - 6) → i < count
+    → i * 2 ^ 6 % 2 ^ 64 ≡ 64 * i
+shifted-word c l a words at i count f six k e h = omega (arith, word-place c l a words at i count words f six k e h refl)
+
 -- what is asked to match a run
 pub run-asks : (c l a words r at back : ℕ) → Fits c l a words → r < 2 ^ (2 * l) → at ≡ number c l a r 0 → back ≡ inverse l r
     → (back < 2 ^ (2 * l)) × (at + 2 ^ c ≤ total c l)
@@ -79,18 +84,18 @@ stretch-empty ws at e k g h z n lo hi =
         ∙ bit-past 0 0 d (pow-pos 0) (omega arith)
 
 -- a byte of a word is 0, and a word
-pub byte-empty : (ws : List ℕ) (at from i : ℕ) → (at + from) % 64 ≡ 0 → i < 8 → getD ws ((at + from) / 64) 0 / 2 ^ (8 * i) % 256 ≡ 0
-    → Empty (at + (from + 8 * i)) (at + (from + 8 * i + 8)) ws
-byte-empty ws at from i h l z =
-    let j : (at + (from + 8 * i)) / 64 ≡ (at + from) / 64 = omega arith in
-    let q : (at + (from + 8 * i)) % 64 ≡ 8 * i = omega arith in
-    stretch-empty ws (at + (from + 8 * i)) _ 8 (omega arith) (omega arith) (rw (j, q) z)
+pub byte-empty : (ws : List ℕ) (at from i k : ℕ) → (at + from) % 64 ≡ 0 → i < 8 → k ≡ 8 * i → getD ws ((at + from) / 64) 0 / 2 ^ k % 256 ≡ 0
+    → Empty (at + (from + k)) (at + (from + k + 8)) ws
+byte-empty ws at from i k h l e z =
+    let j : (at + (from + k)) / 64 ≡ (at + from) / 64 = omega arith in
+    let q : (at + (from + k)) % 64 ≡ k = omega arith in
+    stretch-empty ws (at + (from + k)) _ 8 (omega arith) (omega arith) (rw (j, q) z)
 
-pub word-empty : (ws : List ℕ) (at i : ℕ) → at % 64 ≡ 0 → getD ws (at / 64 + i) 0 ≡ 0 → Empty (at + 64 * i) (at + (64 * i + 64)) ws
-word-empty ws at i h z =
-    let j : (at + 64 * i) / 64 ≡ at / 64 + i = omega arith in
-    let q : (at + 64 * i) % 64 ≡ 0 = omega arith in
-    stretch-empty ws (at + 64 * i) _ 64 (omega arith) (omega arith) (rw (j, q, z) refl)
+pub word-empty : (ws : List ℕ) (at i k : ℕ) → at % 64 ≡ 0 → k ≡ 64 * i → getD ws (at / 64 + i) 0 ≡ 0 → Empty (at + k) (at + (k + 64)) ws
+word-empty ws at i k h e z =
+    let j : (at + k) / 64 ≡ at / 64 + i = omega arith in
+    let q : (at + k) % 64 ≡ 0 = omega arith in
+    stretch-empty ws (at + k) _ 64 (omega arith) (omega arith) (rw (j, q, z) refl)
 
 -- ---- a run: what is known of it only if `at` is its start and `back` the inverse of its role set
 module _ (c l a back at : ℕ) where
@@ -137,11 +142,11 @@ module _ (c l a back at : ℕ) where
         })
 
   -- a word of the run, after it the next
-  pub run-on : (x y z : ℕ) (ws vs us : List ℕ) (b r d : Bool) → RunMatched x y ws vs b → RunMatched y z vs us r
+  pub run-on : (x y u z : ℕ) (ws vs us : List ℕ) (b r d : Bool) → RunMatched x y ws vs b → u ≡ y → RunMatched u z vs us r
       → ((r ≡ true) × (d ≡ true)) ⊎ ((r ≡ false) × (d ≡ b)) → RunMatched x z ws us d
-  run-on x y z ws vs us b r d j k w = record {
+  run-on x y u z ws vs us b r d j t k w = record {
     long = k .long ∙ j .long;
-    passed = λ v s p q h e f. pass-on v (unmatched v) x y z ws vs us b (j .passed v s p q h e f) r d (k .passed v s p q h e f) w;
+    passed = λ v s p q h e f. pass-on v (unmatched v) x u z ws vs us b (rw t (j .passed v s p q h e f)) r d (k .passed v s p q h e f) w;
   }
 
   -- a part of it without a member

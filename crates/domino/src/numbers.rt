@@ -30,14 +30,14 @@ pub(crate) fn roles_of(c: usize, l: usize, n: usize) -> usize
     requires { ⌜ c + l ≤ 12 ⌝ }
     ensures { λ r. ⌜ r ≡ rolesOf c l n ⌝ }
 {
-    (n >> c) % pow(l + l)
+    (n >> c) & (pow(l + l) - 1)
 }
 
 pub(crate) fn right_of(c: usize, n: usize) -> usize
     requires { ⌜ c ≤ 12 ⌝ }
     ensures { λ b. ⌜ b ≡ rightOf c n ⌝ }
 {
-    n % pow(c)
+    n & (pow(c) - 1)
 }
 
 // Each role for its inverse, for at most four roles: the bits 2k and 2k + 1 change places.

@@ -1,11 +1,12 @@
 -- Laws of a record's word, and of the records that a table of words holds.
-use Prim.Native.Nat.{ℕ, zero, suc, _+_, _-_, _*_, _/_, _%_, _≤_, _<_}
+use Prim.Native.Nat.{ℕ, zero, suc, _+_, _-_, _*_, _/_, _%_, _^_, _≤_, _<_}
 use mathlib.Core.Path.{_≡_, refl, ap, _∙_}
 use mathlib.Core.Bool.{Bool, true, false}
 use mathlib.Core.List.{List, [], _∷_, _++_, map, map-append}
 use lib.ListN.{length, getD, take, set, length-take, length-map, List·getD-map, List·getD-eq-default}
 use lib.Seq.{getD-take, take-set-lt, length-take-le, take-suc-set}
 use lib.Dec.{eqb}
+use lib.Pow.{shl-exact}
 use native.Mathlib.Omega.{arith}
 use native.Mathlib.Numerals.{add-one}
 use Rattle.tbox.specs.declared.records.Entry.{Entry}
@@ -24,23 +25,43 @@ entry-is w e k a b n v s l = rw (k, a, b, n, v, s, l, back (e .named), back (e .
     back false = refl
 
 -- the word of an entry, read as an entry
-pub word-entry : (e : Entry) (n v l : ℕ) → e .kind < 256 → e .first < 256 → e .second < 256 → e .sort < 4 → n ≡ flag (e .named) →
+flags-are : (n v s l : ℕ) → v < 2 ^ 1 → s < 2 ^ 2 → l < 2 ^ 1 →
+    n + v * 2 ^ 1 % 2 ^ 32 + s * 2 ^ 2 % 2 ^ 32 + l * 2 ^ 4 % 2 ^ 32 ≡ n + 2 * v + 4 * s + 16 * l
+flags-are n v s l hv hs hl = omega arith
+
+word-digits : (e : Entry) (n v l : ℕ) → e .kind < 256 → e .first < 256 → e .second < 256 → e .sort < 4 → n ≡ flag (e .named) →
     v ≡ flag (e .vacuous) → l ≡ flag (e .leaf) → n ≤ 1 → v ≤ 1 → l ≤ 1 →
-    entryOf (e .kind + 256 * e .first + 65536 * e .second + 16777216 * (n + 2 * v + 4 * e .sort + 16 * l)) ≡ e
-word-entry e n v l k a b s p q r hn hv hl =
-    entry-is (e .kind + 256 * e .first + 65536 * e .second + 16777216 * f) e
+    entryOf (e .kind + e .first * 2 ^ 8 + e .second * 2 ^ 16 + (n + 2 * v + 4 * e .sort + 16 * l) * 2 ^ 24) ≡ e
+word-digits e n v l k a b s p q r hn hv hl =
+    entry-is (e .kind + e .first * 2 ^ 8 + e .second * 2 ^ 16 + f * 2 ^ 24) e
     (omega arith) (omega arith) (omega arith) (omega arith) (omega arith) (omega arith) (omega arith)
   where
     f : ℕ
     f = n + 2 * v + 4 * e .sort + 16 * l
 
+-- as the machine's shifts have them
+pub word-entry : (e : Entry) (n v l : ℕ) → e .kind < 256 → e .first < 256 → e .second < 256 → e .sort < 4 → n ≡ flag (e .named) →
+    v ≡ flag (e .vacuous) → l ≡ flag (e .leaf) → n ≤ 1 → v ≤ 1 → l ≤ 1 →
+    entryOf (e .kind + e .first * 2 ^ 8 % 2 ^ 32 + e .second * 2 ^ 16 % 2 ^ 32 + (n + v * 2 ^ 1 % 2 ^ 32 + e .sort * 2 ^ 2 % 2 ^ 32 + l * 2 ^ 4 % 2 ^ 32) * 2 ^ 24 % 2 ^ 32) ≡ e
+word-entry e n v l k a b s p q r hn hv hl =
+    rw (
+      flags-are n v (e .sort) l (omega arith) s (omega arith),
+      shl-exact {a = e .first} 8 8 32 a (omega arith),
+      shl-exact {a = e .second} 8 16 32 b (omega arith),
+      shl-exact {a = n + 2 * v + 4 * e .sort + 16 * l} 5 24 32 (omega arith) (omega arith),
+    )
+    (word-digits e n v l k a b s p q r hn hv hl)
+
 -- the flag that a record is named, set in its word
-pub word-named : (w : ℕ) → entryOf (w + 16777216 * (1 - w / 16777216 % 2)) ≡ naming (entryOf w)
+pub word-named : (w : ℕ) → entryOf (w + (1 - w / 16777216 % 2) * 2 ^ 24 % 2 ^ 32) ≡ naming (entryOf w)
 unfolding entryOf
-word-named w = set (w + 16777216 * t) (digit _ _ (65536 * t) (omega arith)) (digit _ _ (256 * t) (omega arith)) (digit _ _ t (omega arith)) above
+word-named w = ap entryOf shifted ∙ set (w + 16777216 * t) (digit _ _ (65536 * t) (omega arith)) (digit _ _ (256 * t) (omega arith)) (digit _ _ t (omega arith)) above
   where
     t : ℕ
     t = 1 - w / 16777216 % 2
+
+    shifted : w + (1 - w / 16777216 % 2) * 2 ^ 24 % 2 ^ 32 ≡ w + 16777216 * t
+    shifted = omega arith
 
     digit : (x y t : ℕ) → x ≡ y + 256 * t → x % 256 ≡ y % 256
     digit x y t e = omega arith

@@ -56,11 +56,11 @@ front-length xs i h = slots-length (take i xs) ∙ ap (λ (n : ℕ). 3 * n) (len
 pub written-length : (ws l xs : List ℕ) (i : ℕ) → i ≤ length ws → 3 * i ≤ length l → xs ≡ slotsOf (take i ws) ++ drop (3 * i) l → length xs ≡ length l
 written-length ws l xs i h k e = rw (e, length-append, length-drop) (omega (arith, front-length ws i h))
 
-pub written-more : (ws l xs ys : List ℕ) (i n : ℕ) → i < length ws → xs ≡ slotsOf (take i ws) ++ drop (3 * i) l →
-    ys ≡ slotBytes (getD ws i 0) → n ≡ 3 →
-    take (3 * i) xs ++ (ys ++ drop n (drop (3 * i) xs)) ≡ slotsOf (take (i + 1) ws) ++ drop (3 * (i + 1)) l
-written-more ws l xs ys i n h e y m =
-    rw (e, m, y, take-at (slotsOf (take i ws)) (drop (3 * i) l) (3 * i) p, drop-at (slotsOf (take i ws)) (drop (3 * i) l) (3 * i) p, drop-drop 3 (3 * i) l, more, next)
+pub written-more : (ws l xs ys : List ℕ) (i from n : ℕ) → i < length ws → xs ≡ slotsOf (take i ws) ++ drop (3 * i) l →
+    ys ≡ slotBytes (getD ws i 0) → from ≡ 3 * i → n ≡ 3 →
+    take from xs ++ (ys ++ drop n (drop from xs)) ≡ slotsOf (take (i + 1) ws) ++ drop (3 * (i + 1)) l
+written-more ws l xs ys i from n h e y f m =
+    rw (f, e, m, y, take-at (slotsOf (take i ws)) (drop (3 * i) l) (3 * i) p, drop-at (slotsOf (take i ws)) (drop (3 * i) l) (3 * i) p, drop-drop 3 (3 * i) l, more, next)
     (sym (append-assoc (slotsOf (take i ws)) (slotBytes (getD ws i 0)) (drop (3 * i + 3) l)))
   where
     p : length (slotsOf (take i ws)) ≡ 3 * i

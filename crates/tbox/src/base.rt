@@ -103,9 +103,10 @@ fn role_words(table: &[u32; 255], count: usize, parts: &[u16; 20], c: usize) -> 
     requires { ⌜ (count ≤ 255) × (c ≤ 20) ⌝ }
     ensures { λ r. ⌜ ((i w : ℕ) (p : Part) → i < c → w < 4 → Stands (seen (now (table .entry)) count) i (getD (now (parts .entry)) i 0) p → getD r (4 * i + w) 0 ≡ wordAt (roleHolds p) w) ⌝ }
 {
+    let end = c << 2;
     let mut role = [0u64; 80];
     let mut j: usize = 0;
-    while j < 4 * c {
+    while j < end {
         let i = j / 4;
         role[j] = role_at(table, count, parts[i], (j % 4) as u64);
         j = j + 1;

@@ -99,11 +99,12 @@ pub fn list_marks(sheet: &[u8], list: &mut [u8]) -> ListAnswer
     if a.fault != 0 {
         return ListAnswer::Refused(a.fault, a.place);
     }
-    if list.len() < 3 * a.parts {
+    let c = a.parts;
+    if list.len() < c + c + c {
         return ListAnswer::Refused(12, 0);
     }
-    write_parts(&parts, a.parts, list);
-    ListAnswer::Listed(a.parts)
+    write_parts(&parts, c, list);
+    ListAnswer::Listed(c)
 }
 
 // The three bytes of one part.
@@ -123,7 +124,7 @@ fn write_slots(parts: &[u16], c: usize, list: &mut [u8])
 {
     let mut i: usize = 0;
     while i < c {
-        let from = 3 * i;
+        let from = i + i + i;
         let to = from + 3;
         write_part(&mut list[from..to], parts[i]);
         i = i + 1;

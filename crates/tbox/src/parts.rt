@@ -81,7 +81,7 @@ fn part_word(kind: u8, odd: u8, number: u8) -> u16
     requires { ⌜ (kind < 4) × (odd < 2) ⌝ }
     ensures { λ w. ⌜ w ≡ partWord kind odd number ⌝ }
 {
-    (kind as u16) + 4 * (odd as u16) + 8 * (number as u16)
+    (kind as u16) + ((odd as u16) << 2) + ((number as u16) << 3)
 }
 
 // A restriction, record r, met: its part, and the next one for its filler, unless that is a name, everything or nothing.

@@ -94,10 +94,10 @@ fn word_of(e: Entry) -> u32
     ensures { λ r. ⌜ entryOf r ≡ e ⌝ }
 {
     let flags = flag_of(e.named)
-        + 2 * flag_of(e.vacuous)
-        + 4 * (e.sort as u32)
-        + 16 * flag_of(e.leaf);
-    (e.kind as u32) + 256 * (e.first as u32) + 65536 * (e.second as u32) + 16777216 * flags
+        + (flag_of(e.vacuous) << 1)
+        + ((e.sort as u32) << 2)
+        + (flag_of(e.leaf) << 4);
+    (e.kind as u32) + ((e.first as u32) << 8) + ((e.second as u32) << 16) + (flags << 24)
 }
 
 fn entry_of(w: u32) -> Entry
@@ -118,7 +118,7 @@ fn entry_of(w: u32) -> Entry
 fn named_word(w: u32) -> u32
     ensures { λ r. ⌜ entryOf r ≡ naming (entryOf w) ⌝ }
 {
-    w + 16777216 * (1 - w / 16777216 % 2)
+    w + ((1 - w / 16777216 % 2) << 24)
 }
 
 // Record r, or a blank one where there is none.

@@ -19,8 +19,11 @@ loop-holds : tie.Need-loop-holds Inv-loop μ-loop
 unfolding slotsOf
 loop-holds c = (omega arith, refl)
 
-mul-from : tie.Need-mul-from Inv-loop μ-loop
-mul-from c = omega arith
+add-from : tie.Need-add-from Inv-loop μ-loop
+add-from c = omega arith
+
+add-from-2 : tie.Need-add-from-2 Inv-loop μ-loop
+add-from-2 c = omega arith
 
 add-to : tie.Need-add-to Inv-loop μ-loop
 add-to c = omega arith
@@ -58,7 +61,8 @@ loop-again : tie.Need-loop-again Inv-loop μ-loop
 loop-again c =
     let args = c .before .before .before .before .before .before .before .before .before .args in
     let at = c .before .before .before .before .before .before .loop in
-    (omega arith, written-more (args .parts .now) _ _ _ (at .i) (3 * at .i + 3 - 3 * at .i) (omega arith) (at .inv .1) (c .before .before .write-part .ensures) (omega arith))
+    let from = at .i + at .i + at .i in
+    (omega arith, written-more (args .parts .now) _ _ _ (at .i) from (from + 3 - from) (omega arith) (at .inv .1) (c .before .before .write-part .ensures) (omega arith) (omega arith))
 
 same-length : tie.Need-same-length Inv-loop μ-loop
 same-length c = written-length (c .before .before .before .before .args .parts .now) _ _ (c .before .loop .i) (omega arith) (omega arith) (c .before .loop .inv .1)
@@ -76,7 +80,8 @@ write-slots-spec =
     Inv-loop
     μ-loop
     loop-holds
-    mul-from
+    add-from
+    add-from-2
     add-to
     sub-write-part
     part-write-part-start

@@ -1,4 +1,5 @@
 use borrow.Author.Needs.{needs}
+use lib.Bits.{and-mask}
 use lib.Pow.{pow-pos}
 use Rattle.semantics.specs.Dominoes.{rolesOf}
 use Rattle.domino.proofs.Rows.{twice}
@@ -17,12 +18,12 @@ add-pow c = search needs
 pow-requires : tie.Need-pow-requires
 pow-requires c κs = search needs
 
-rem-result : tie.Need-rem-result
-rem-result c = rw (c .pow .ensures) (pow-pos _)
+sub-result : tie.Need-sub-result
+sub-result c = rw (c .pow .ensures) (pow-pos _)
 
 returns : tie.Need-returns
 unfolding rolesOf
-returns c = rw (c .pow .ensures, twice (c .before .args .l))
+returns c = rw (c .pow .ensures, twice (c .before .args .l)) (and-mask _ _)
 
 pub roles-of-spec : {M : Type 1} → statement M
-roles-of-spec = tie.close (tie.spec shr-result add-pow pow-requires rem-result returns)
+roles-of-spec = tie.close (tie.spec shr-result add-pow pow-requires sub-result returns)

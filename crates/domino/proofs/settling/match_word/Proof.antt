@@ -1,7 +1,7 @@
 -- `match_word` meets its contract: byte after byte, of which those that are 0 have no member. Assumes nothing.
 use mathlib.Core.Path.{_≡_, refl}
 use mathlib.Core.Logic.{inl, inr, ⊎-elim}
-use Prim.Native.Nat.{_+_, _-_, _*_, _≤_}
+use Prim.Native.Nat.{ℕ, _+_, _-_, _*_, _%_, _^_, _≤_}
 use native.Mathlib.Nat.{add-zero}
 use native.Mathlib.Omega.{arith}
 use Rattle.domino.proofs.Rows.{fit-as}
@@ -34,14 +34,8 @@ slice-read-if1 c =
     let c4 = c .before .before .before .before in
     run-place _ _ _ _ _ (c4 .args .from) _ (c4 .pre .0) (omega (arith, c4 .pre .2)) (c4 .pre .3) (c .before .before .loop .inv .1 .long) .0
 
-mul-if1-2 : tie.Need-mul-if1-2 Inv-loop μ-loop
-mul-if1-2 c = omega arith
-
 shr-if1 : tie.Need-shr-if1 Inv-loop μ-loop
 shr-if1 c = omega arith
-
-mul-match-some : tie.Need-mul-match-some Inv-loop μ-loop
-mul-match-some c = omega arith
 
 add-match-some : tie.Need-add-match-some Inv-loop μ-loop
 add-match-some c =
@@ -63,16 +57,19 @@ loop-again : tie.Need-loop-again Inv-loop μ-loop
 loop-again c =
     let c3 = c .before .before .before in
     let c5 = c3 .before .before in
-    let e : c5 .args .from + 8 * (c3 .loop .i + 1) ≡ c5 .args .from + 8 * c3 .loop .i + 8 = omega arith in (
+    let k : ℕ = c3 .loop .i * 2 ^ 3 % 2 ^ 64 in
+    let s : k ≡ 8 * c3 .loop .i = omega arith in
+    let t : c5 .args .at + (c5 .args .from + k) ≡ c5 .args .at + (c5 .args .from + 8 * c3 .loop .i) = omega arith in
+    let e : c5 .args .from + 8 * (c3 .loop .i + 1) ≡ c5 .args .from + k + 8 = omega arith in (
       omega arith,
       rw e (⊎-elim
-          (λ w. rw (w .6) (run-on _ _ _ _ _ _ _ (c5 .args .at + (c5 .args .from + 8 * c3 .loop .i + 8)) _ _ _ _ (w .2 .result) _ (c3 .loop .inv .1)
+          (λ w. rw (w .6) (run-on _ _ _ _ _ _ _ _ (c5 .args .at + (c5 .args .from + k + 8)) _ _ _ _ (w .2 .result) _ (c3 .loop .inv .1) t
           (record { long = w .3 .given; passed = w .2 .ensures }) (inl (w .5 .taken, w .7))))
           (⊎-elim
-          (λ w. rw (w .6) (run-on _ _ _ _ _ _ _ (c5 .args .at + (c5 .args .from + 8 * c3 .loop .i + 8)) _ _ _ _ (w .2 .result) _ (c3 .loop .inv .1)
+          (λ w. rw (w .6) (run-on _ _ _ _ _ _ _ _ (c5 .args .at + (c5 .args .from + k + 8)) _ _ _ _ (w .2 .result) _ (c3 .loop .inv .1) t
           (record { long = w .3 .given; passed = w .2 .ensures }) (inr (w .5 .left, w .7))))
-          (λ w. rw (w .1) (run-on _ _ _ _ _ _ _ _ _ _ _ _ _ _ (c3 .loop .inv .1)
-          (run-empty _ _ _ _ _ _ _ _ (byte-empty _ _ _ (c3 .loop .i) (c5 .pre .4) (omega arith) (w .0 .left))) (inr (refl, w .2)))))
+          (λ w. rw (w .1) (run-on _ _ _ _ _ _ _ _ _ _ _ _ _ _ _ (c3 .loop .inv .1) t
+          (run-empty _ _ _ _ _ _ _ _ (byte-empty _ _ _ (c3 .loop .i) k (c5 .pre .4) (omega arith) s (w .0 .left))) (inr (refl, w .2)))))
           (c .if1 .came)),
     )
 
@@ -92,9 +89,7 @@ match-word-spec =
     loop-holds
     mul-if1
     slice-read-if1
-    mul-if1-2
     shr-if1
-    mul-match-some
     add-match-some
     match-some-requires
     add-i

@@ -4,10 +4,10 @@ use Rattle.domino.proofs.Rows.{fit-as}
 use borrow.Author.Needs.{needs}
 use mathlib.Core.Path.{_≡_, refl}
 use mathlib.Core.Logic.{inl, inr, ⊎-elim}
-use Prim.Native.Nat.{_+_, _-_, _*_, _^_, _≤_}
+use Prim.Native.Nat.{ℕ, _+_, _-_, _*_, _%_, _^_, _≤_}
 use native.Mathlib.Nat.{add-zero}
 use native.Mathlib.Omega.{arith}
-use Rattle.domino.proofs.Matching.{RunMatched, word-place, run-none, run-on, run-empty, word-empty}
+use Rattle.domino.proofs.Matching.{RunMatched, word-place, shifted-word, run-none, run-on, run-empty, word-empty}
 use Rattle.domino.proofs.settling.match_words.Statement.{statement}
 use Rattle.domino.proofs.settling.match_words.Tie as tie
 use Rattle.domino.proofs.settling.match_words.Reads as reads
@@ -49,22 +49,17 @@ slice-read-if1 c =
     word-place _ _ _ _ _ _ _ _ (c5 .pre .0) (c5 .pre .1) (c5 .pre .3) (c3 .pow .ensures) (c .before .loop-test .taken)
     (c .before .before .loop .inv .1 .long) .0
 
-mul-match-word : tie.Need-mul-match-word Inv-loop μ-loop
-mul-match-word c =
-    let c3 = c .before .before .before in
-    let c5 = c3 .before .before in
-    let c7 = c5 .before .before in
-    omega (arith, word-place _ _ _ _ _ _ _ _ (c7 .pre .0) (c7 .pre .1) (c7 .pre .3) (c5 .pow .ensures) (c3 .loop-test .taken) refl)
-
 match-word-requires : tie.Need-match-word-requires Inv-loop μ-loop
 match-word-requires c κs =
     let c5 = c .before .before .before .before .before in
-    let c7 = c5 .before .before in (
+    let c7 = c5 .before .before in
+    let w = word-place _ _ _ _ _ _ _ _ (c7 .pre .0) (c7 .pre .1) (c7 .pre .3) (c5 .pow .ensures) (c .before .before .before .loop-test .taken) refl in
+    let s = shifted-word _ _ _ _ _ _ _ (c7 .pre .0) (c7 .pre .1) (c7 .pre .3) (c5 .pow .ensures) (c .before .before .before .loop-test .taken) in (
       fit-as _ _ _ _ _ (c7 .pre .0) (c .before .before .before .before .loop .inv .1 .long),
       c7 .pre .2,
-      word-place _ _ _ _ _ _ _ _ (c7 .pre .0) (c7 .pre .1) (c7 .pre .3) (c5 .pow .ensures) (c .before .before .before .loop-test .taken) refl .1,
+      omega (arith, w, s),
       c7 .pre .3,
-      omega (arith, c7 .pre .4),
+      omega (arith, s, c7 .pre .4),
     )
 
 add-i : tie.Need-add-i Inv-loop μ-loop
@@ -77,16 +72,19 @@ loop-again : tie.Need-loop-again Inv-loop μ-loop
 loop-again c =
     let c3 = c .before .before .before in
     let c6 = c3 .before .before .before in
-    let e : 64 * (c3 .loop .i + 1) ≡ 64 * c3 .loop .i + 64 = omega arith in (
+    let k : ℕ = c3 .loop .i * 2 ^ 6 % 2 ^ 64 in
+    let s : k ≡ 64 * c3 .loop .i = shifted-word _ _ _ _ _ _ _ (c6 .pre .0) (c6 .pre .1) (c6 .pre .3) (c3 .before .pow .ensures) (c .before .before .loop-test .taken) in
+    let t : c6 .args .at + k ≡ c6 .args .at + 64 * c3 .loop .i = omega arith in
+    let e : 64 * (c3 .loop .i + 1) ≡ k + 64 = omega arith in (
       search needs,
       rw e (⊎-elim
-          (λ w. rw (w .6) (run-on _ _ _ _ _ _ _ (c6 .args .at + (64 * c3 .loop .i + 64)) _ _ _ _ (w .2 .result) _ (c3 .loop .inv .1)
+          (λ w. rw (w .6) (run-on _ _ _ _ _ _ _ _ (c6 .args .at + (k + 64)) _ _ _ _ (w .2 .result) _ (c3 .loop .inv .1) t
           (record { long = w .3 .given; passed = w .2 .ensures }) (inl (w .5 .taken, w .7))))
           (⊎-elim
-          (λ w. rw (w .6) (run-on _ _ _ _ _ _ _ (c6 .args .at + (64 * c3 .loop .i + 64)) _ _ _ _ (w .2 .result) _ (c3 .loop .inv .1)
+          (λ w. rw (w .6) (run-on _ _ _ _ _ _ _ _ (c6 .args .at + (k + 64)) _ _ _ _ (w .2 .result) _ (c3 .loop .inv .1) t
           (record { long = w .3 .given; passed = w .2 .ensures }) (inr (w .5 .left, w .7))))
-          (λ w. rw (w .1) (run-on _ _ _ _ _ _ _ _ _ _ _ _ _ _ (c3 .loop .inv .1)
-          (run-empty _ _ _ _ _ _ _ _ (word-empty _ _ (c3 .loop .i) (c6 .pre .4) (w .0 .left))) (inr (refl, w .2)))))
+          (λ w. rw (w .1) (run-on _ _ _ _ _ _ _ _ _ _ _ _ _ _ _ (c3 .loop .inv .1) t
+          (run-empty _ _ _ _ _ _ _ _ (word-empty _ _ (c3 .loop .i) k (c6 .pre .4) s (w .0 .left))) (inr (refl, w .2)))))
           (c .if1 .came)),
     )
 
@@ -112,7 +110,6 @@ match-words-spec =
     add-if1
     mul-if1
     slice-read-if1
-    mul-match-word
     match-word-requires
     add-i
     loop-less

@@ -14,16 +14,13 @@ use Rattle.tbox.proofs.base.role_words.Statement.{statement}
 use Rattle.tbox.proofs.base.role_words.Tie as tie
 
 abbrev Inv-loop : tie.InvT-loop
-Inv-loop table count parts c role₀ j₀ role j = (j ≤ 4 * c) × Filled (λ k v. (p : Part) → Stands (seen table count) (k / 4) (getD parts (k / 4) 0) p → v ≡ wordAt (roleHolds p) (k % 4)) 80 role j
+Inv-loop table count parts c end role₀ j₀ role j = (j ≤ end) × Filled (λ k v. (p : Part) → Stands (seen table count) (k / 4) (getD parts (k / 4) 0) p → v ≡ wordAt (roleHolds p) (k % 4)) 80 role j
 
 abbrev μ-loop : tie.MeasureT-loop
-μ-loop table count parts c role₀ j₀ role j = 4 * c - j
+μ-loop table count parts c end role₀ j₀ role j = end - j
 
 loop-holds : tie.Need-loop-holds Inv-loop μ-loop
 loop-holds c = (omega arith, filled-none _ _ _ (search needs))
-
-mul-loop : tie.Need-mul-loop Inv-loop μ-loop
-mul-loop c = omega arith
 
 mul-role-at : tie.Need-mul-role-at Inv-loop μ-loop
 mul-role-at c = omega arith
@@ -59,7 +56,6 @@ role-words-spec =
     Inv-loop
     μ-loop
     loop-holds
-    mul-loop
     mul-role-at
     element-copy-out-role-at
     role-at-requires

@@ -6,9 +6,6 @@ use Rattle.tbox.proofs.records.named_word.Tie as tie
 sub-result : tie.Need-sub-result
 sub-result c = search needs
 
-mul-result : tie.Need-mul-result
-mul-result c = search needs
-
 add-result : tie.Need-add-result
 add-result c = search needs
 
@@ -16,4 +13,4 @@ returns : tie.Need-returns
 returns c = word-named _
 
 pub named-word-spec : {M : Type 1} → statement M
-named-word-spec = tie.close (tie.spec sub-result mul-result add-result returns)
+named-word-spec = tie.close (tie.spec sub-result add-result returns)

@@ -10,26 +10,17 @@ flag-of-requires c κs = search needs
 flag-of-requires-2 : tie.Need-flag-of-requires-2
 flag-of-requires-2 c κs = search needs
 
-mul-flags : tie.Need-mul-flags
-mul-flags c = search needs
-
 add-flags : tie.Need-add-flags
 add-flags c = search needs
 
 cast-flags : tie.Need-cast-flags
 cast-flags c = search needs
 
-mul-flags-2 : tie.Need-mul-flags-2
-mul-flags-2 c = search needs
-
 add-flags-2 : tie.Need-add-flags-2
 add-flags-2 c = search needs
 
 flag-of-requires-3 : tie.Need-flag-of-requires-3
 flag-of-requires-3 c κs = search needs
-
-mul-flags-3 : tie.Need-mul-flags-3
-mul-flags-3 c = search needs
 
 add-flags-3 : tie.Need-add-flags-3
 add-flags-3 c = search needs
@@ -40,23 +31,14 @@ cast-result c = search needs
 cast-result-2 : tie.Need-cast-result-2
 cast-result-2 c = search needs
 
-mul-result : tie.Need-mul-result
-mul-result c = search needs
-
 add-result : tie.Need-add-result
 add-result c = search needs
 
 cast-result-3 : tie.Need-cast-result-3
 cast-result-3 c = search needs
 
-mul-result-2 : tie.Need-mul-result-2
-mul-result-2 c = search needs
-
 add-result-2 : tie.Need-add-result-2
 add-result-2 c = search needs
-
-mul-result-3 : tie.Need-mul-result-3
-mul-result-3 c = search needs
 
 add-result-3 : tie.Need-add-result-3
 add-result-3 c = search needs
@@ -70,21 +52,15 @@ word-of-spec =
     (tie.spec
     flag-of-requires
     flag-of-requires-2
-    mul-flags
     add-flags
     cast-flags
-    mul-flags-2
     add-flags-2
     flag-of-requires-3
-    mul-flags-3
     add-flags-3
     cast-result
     cast-result-2
-    mul-result
     add-result
     cast-result-3
-    mul-result-2
     add-result-2
-    mul-result-3
     add-result-3
     returns)
