@@ -65,13 +65,16 @@ def products_of(source):
     return found
 
 
-def standing_on(crate):
-    """The crates that a crate's line in crates.txt names, and itself."""
-    for line in (ROOT / "crates.txt").read_text().splitlines():
-        name, colon, rest = line.partition(":")
-        if colon and name == crate:
-            return rest.split() + [crate]
-    raise SystemExit(f"products: no crate {crate}")
+def standing_on(crate, lines):
+    """The crates of crates.txt that a crate stands on, also through others, and itself, in the order of the file."""
+    below = {name: rest.split() for name, colon, rest in (line.partition(":") for line in lines) if colon}
+    found, new = set(), [crate]
+    while new:
+        name = new.pop()
+        if name in below and name not in found:
+            found.add(name)
+            new += below[name]
+    return [name for name in below if name in found]
 
 
 def instructions(listing):
@@ -148,7 +151,9 @@ LISTINGS = [
 
 
 def sees():
-    """The two tests find what they should in the texts and listings above."""
+    """The two tests find what they should in the texts and listings above; a crate is found through another."""
+    if standing_on("c", ["# a line for each: its name", "a:", "x: a", "b: a io", "c: b"]) != ["a", "b", "c"]:
+        raise SystemExit("products: not all that a crate stands on is found")
     for text, count in TEXTS:
         if len(products_of(text)) != count:
             raise SystemExit(f"products: {products_of(text)} found in {text!r}")
@@ -166,7 +171,7 @@ def main():
     sees()
     library = Path(sys.argv[1]) if len(sys.argv) > 1 else ROOT / "target/staticlib/libcapi.a"
     bad = []
-    crates = standing_on("capi")
+    crates = standing_on("capi", (ROOT / "crates.txt").read_text().splitlines())
     sources = [s for crate in crates for s in sorted((ROOT / "crates" / crate / "src").glob("**/*.rt"))]
     for source in sources:
         bad += [f"{source.relative_to(ROOT)}:{line}: {text}" for line, text in products_of(source.read_text())]

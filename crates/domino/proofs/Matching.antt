@@ -54,11 +54,6 @@ word-place c l a words at i count w f six k e h g =
     let s = labels-words c count six e in
     (omega arith, omega arith, omega arith)
 
--- where it starts in the run, as the machine's shift has it
-pub shifted-word : (c l a words at i count : ℕ) → Fits c l a words → 6 ≤ c → at + 2 ^ c ≤ total c l → count ≡ 2 ^ (c - 6) → i < count
-    → i * 2 ^ 6 % 2 ^ 64 ≡ 64 * i
-shifted-word c l a words at i count f six k e h = omega (arith, word-place c l a words at i count words f six k e h refl)
-
 -- what is asked to match a run
 pub run-asks : (c l a words r at back : ℕ) → Fits c l a words → r < 2 ^ (2 * l) → at ≡ number c l a r 0 → back ≡ inverse l r
     → (back < 2 ^ (2 * l)) × (at + 2 ^ c ≤ total c l)

@@ -1,13 +1,14 @@
 -- `match_words` meets its contract: word after word, of which those that are 0 have no member. Assumes nothing.
 use Rattle.domino.proofs.Dropping.{labels-words}
 use Rattle.domino.proofs.Rows.{fit-as}
+use Rattle.domino.proofs.Shifts.{words-numbers}
 use borrow.Author.Needs.{needs}
 use mathlib.Core.Path.{_≡_, refl}
 use mathlib.Core.Logic.{inl, inr, ⊎-elim}
 use Prim.Native.Nat.{ℕ, _+_, _-_, _*_, _%_, _^_, _≤_}
 use native.Mathlib.Nat.{add-zero}
 use native.Mathlib.Omega.{arith}
-use Rattle.domino.proofs.Matching.{RunMatched, word-place, shifted-word, run-none, run-on, run-empty, word-empty}
+use Rattle.domino.proofs.Matching.{RunMatched, word-place, run-none, run-on, run-empty, word-empty}
 use Rattle.domino.proofs.settling.match_words.Statement.{statement}
 use Rattle.domino.proofs.settling.match_words.Tie as tie
 use Rattle.domino.proofs.settling.match_words.Reads as reads
@@ -54,7 +55,7 @@ match-word-requires c κs =
     let c5 = c .before .before .before .before .before in
     let c7 = c5 .before .before in
     let w = word-place _ _ _ _ _ _ _ _ (c7 .pre .0) (c7 .pre .1) (c7 .pre .3) (c5 .pow .ensures) (c .before .before .before .loop-test .taken) refl in
-    let s = shifted-word _ _ _ _ _ _ _ (c7 .pre .0) (c7 .pre .1) (c7 .pre .3) (c5 .pow .ensures) (c .before .before .before .loop-test .taken) in (
+    let s = words-numbers (c .before .before .before .before .loop .i) (omega (arith, w)) in (
       fit-as _ _ _ _ _ (c7 .pre .0) (c .before .before .before .before .loop .inv .1 .long),
       c7 .pre .2,
       omega (arith, w, s),
@@ -73,7 +74,8 @@ loop-again c =
     let c3 = c .before .before .before in
     let c6 = c3 .before .before .before in
     let k : ℕ = c3 .loop .i * 2 ^ 6 % 2 ^ 64 in
-    let s : k ≡ 64 * c3 .loop .i = shifted-word _ _ _ _ _ _ _ (c6 .pre .0) (c6 .pre .1) (c6 .pre .3) (c3 .before .pow .ensures) (c .before .before .loop-test .taken) in
+    let w = word-place _ _ _ _ _ _ _ _ (c6 .pre .0) (c6 .pre .1) (c6 .pre .3) (c3 .before .pow .ensures) (c .before .before .loop-test .taken) refl in
+    let s : k ≡ 64 * c3 .loop .i = words-numbers _ (omega (arith, w)) in
     let t : c6 .args .at + k ≡ c6 .args .at + 64 * c3 .loop .i = omega arith in
     let e : 64 * (c3 .loop .i + 1) ≡ k + 64 = omega arith in (
       search needs,
