@@ -55,14 +55,15 @@ extern "C" {
 
 /*
  * Read. Answers T, L and c: *traits is one more than the largest trait number in the sheet, or 0; *links the same for links; *marks
- * the number of all marks.
+ * the number of all marks. Occurrences of one claim (a some or only: the same kind after normal form, links written alike, the same
+ * filler in normal form, if that is a trait, everything or nothing) share a mark.
  * Refuses: 1 to 9.
  */
 uint64_t lodhrussi_read(const uint8_t *sheet, size_t n, uint64_t *place, uint64_t *traits, uint64_t *links, uint64_t *marks);
 
 /*
  * List marks. Writes three bytes for each mark into the list of len bytes: its kind (0 trait, 1 fresh, 2 some, 3 only, after normal
- * form); the trait number, or the record number of the filler (fresh) or of the some or only; 1 if that record is read under an odd
+ * form); the trait number, or the record number of the filler (fresh) or of the some or only first met; 1 if that record is read under an odd
  * number of nots, a rule's left side counting as one, else 0, and for a trait always 0. Bytes past 3c are kept.
  * Refuses: as read does, then 12.
  */

@@ -1,5 +1,6 @@
 #!/usr/bin/env python3
-"""Runs the built evening program on sheets of document 01 and on inputs of many lengths, and compares what it prints.
+"""Runs the built evening program on sheets of document 01, on sheets that repeat a claim and on inputs of many lengths, and
+compares what it prints.
 
 usage: evening.py target/bin/evening
 """
@@ -12,6 +13,12 @@ S2 = S1 + bytes.fromhex("02200205")
 EMPTY = "traits 0 links 0 marks 0\nopening 1 survivors 1\ncan be met\n"
 ONE = "traits 1 links 1 marks 2\nopening 32 survivors 16\ncan be met\n"
 TWO = "traits 1 links 1 marks 2\nopening 16 survivors 0\ncannot be met\n"
+# each of six names is some role 0 is name 0: six occurrences of one claim, so 7 parts
+SIX_NAMES = bytes.fromhex(
+    "0300 1000 0301 0302 0303 0304 0305"
+    "070100 200007 070100 200209 070100 20030B 070100 20040D 070100 20050F 070100 200611"
+)
+SIX = "traits 6 links 1 marks 7\nopening 33152 survivors 16772\ncan be met\n"
 # 255 records without fault: everything, then 254 conjunctions of it with itself
 LONGEST = b"\x01" + b"\x05\x00\x00" * 254
 
@@ -23,6 +30,8 @@ RUNS = [
     (b"", 0, EMPTY),
     (S1, 1, ONE),
     (S2, 2, TWO),
+    (S1[:5] + b"".join(bytes([7, 1, 2, 0x20, 0, 3 + 2 * i]) for i in range(60)), 0, ONE),
+    (SIX_NAMES, 0, SIX),
     (LONGEST, 0, EMPTY),
     (LONGEST, 100, EMPTY),
     (LONGEST + b"\x01" * 3, 0, "refused 3 at 763\n"),

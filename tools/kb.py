@@ -1,4 +1,4 @@
-"""Worked sheets read by document 01 alone: trees, a list of rules, and an evaluation of role sets and labels one by one."""
+"""Worked sheets read by documents 01 and 02 alone: trees, a list of rules, and role sets and labels evaluated one by one."""
 
 # S0 to S6
 WORKED = [
@@ -36,8 +36,16 @@ def concept(rs, r, positive):
     return ("some" if (kind == 7) == positive else "only", b[0], concept(rs, b[1], positive))
 
 
+def spelled(rs, r):
+    """A role as text: alike for two records just if the roles are written alike."""
+    kind, *b = rs[r]
+    return f"{kind:x}({','.join(str(x) if kind in (0x10, 0x11) else spelled(rs, x) for x in b)})"
+
+
 def flatten(rs, names):
+    """The parts, one for each claim, and the flattened rules."""
     parts = [("name",)] * names
+    claims = {}
     rules = [("or", concept(rs, r[1], False), concept(rs, r[2], True)) for r in rs if r[0] == 0x20]
     flat = []
 
@@ -48,14 +56,16 @@ def flatten(rs, names):
             return c
         kind, role, filler = c
         number = len(parts)
-        parts.append(None)
         if filler[0] in ("all", "none", "name"):
             code = {"all": 254, "none": 255}.get(filler[0]) or filler[-1]
+            first = claims.setdefault((kind, spelled(rs, role), code), number)
+            if first < number:
+                return ("name", first)
+            parts.append((kind, role, code))
         else:
-            code = len(parts)
-            parts.append(("fresh",))
+            code = number + 1
+            parts.extend([(kind, role, code), ("fresh",)])
             rules.append(("or", ("lacks", code), filler))
-        parts[number] = (kind, role, code)
         return ("name", number)
 
     while rules:

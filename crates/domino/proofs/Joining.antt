@@ -17,7 +17,7 @@ use Rattle.elimination.specs.Sets.{below, Same}
 use Rattle.elimination.specs.Elimination.{settled, Monotone}
 use Rattle.elimination.specs.Calls.{written, strikeWords}
 use Rattle.elimination.proofs.Settling.{same-by, stable-at, stable-by, settled-sub, settled-stable, settled-keeps, settled-same}
-use Rattle.tbox.specs.Flatten.{Filler, everything, nothing, part, Part, nameP, freshP, existsP, forallP, partAt}
+use Rattle.tbox.specs.Flatten.{everything, nothing, nameA, Filler, atomic, fresh, Part, nameP, freshP, existsP, forallP, partAt}
 use Rattle.tbox.specs.Bounds.{FillerLow, PartLow}
 use Rattle.tbox.specs.Truth.{kbOn}
 use Rattle.tbox.specs.Promise.{kindOf, fillerNo, fillerOf, roleHolds, Flattened}
@@ -226,9 +226,10 @@ module _ (v w : View) (a : Agree v w) where
 
 filler-has : (c : ℕ) → c ≤ 12 → (f : Filler) → FillerLow c f → (B : ℕ) → inLabel (fillerNo f) B ≡ fillerIn f (bit B)
 unfolding inLabel fillerNo fillerIn
-filler-has c h everything l B = refl
-filler-has c h nothing l B = refl
-filler-has c h (part j) l B = rw (lt-ltb j 64 (omega arith))
+filler-has c h (atomic everything) l B = refl
+filler-has c h (atomic nothing) l B = refl
+filler-has c h (atomic (nameA t)) l B = rw (lt-ltb t 64 (omega arith))
+filler-has c h (fresh j) l B = rw (lt-ltb j 64 (omega arith))
 
 part-has : (c : ℕ) → c ≤ 12 → (p : Part) → PartLow c p → 2 ≤ kindOf p → (B : ℕ) → inLabel (fillerOf p) B ≡ hasFiller p B
 unfolding kindOf fillerOf hasFiller

@@ -9,7 +9,7 @@ use lib.ListN.{length, List·getD-eq-default}
 use Rattle.elimination.specs.Sets.{every, some}
 use Rattle.tbox.specs.Concepts.{Role, Axiom}
 use Rattle.tbox.specs.Normal.{Tag, Nf, topN, bottomN, nameN, notN, andN, orN, existsN, forallN, axiomNf}
-use Rattle.tbox.specs.Flatten.{Filler, everything, nothing, part, Part, nameP, freshP, existsP, forallP, Flat, atom, noPart, partAt}
+use Rattle.tbox.specs.Flatten.{everything, nothing, nameA, Filler, atomic, fresh, Part, nameP, freshP, existsP, forallP, Flat, atom, noPart, partAt}
 use Rattle.tbox.specs.Truth.{eval}
 use Rattle.tbox.specs.Bounds.{All, Plain, FillerPlain, PartPlain}
 use Rattle.semantics.specs.Interpretations.{Interpretation, roleIn, holds, satisfies, models, holdsNf}
@@ -72,9 +72,10 @@ module _ (I : Interpretation) (m : ℕ → Part) where
 
   filler-reads : (f : Filler) → FillerPlain m f → (y : ℕ) → fillerIn f (λ k. plainAt I (m k) y) ≡ fillerIn f (partsIn I m y)
   unfolding fillerIn
-  filler-reads everything ok y = refl
-  filler-reads nothing ok y = refl
-  filler-reads (part k) ok y = plain-reads k y (m k) refl ok
+  filler-reads (atomic everything) ok y = refl
+  filler-reads (atomic nothing) ok y = refl
+  filler-reads (atomic (nameA t)) ok y = plain-reads t y (m t) refl ok
+  filler-reads (fresh j) ok y = plain-reads j y (m j) refl ok
 
 -- The parts that the individuals of a model have are a labelling.
 module _ (I : Interpretation) (s : List Axiom) (ps : List Part) (fs : List Flat) (F : Flattens s ps fs) where

@@ -14,7 +14,7 @@ use lib.ListN.{length, getD}
 use Rattle.bitset.specs.Bits.{bit, word}
 use Rattle.bitset.proofs.Laws.{word-ext, word-bits, bit-past}
 use Rattle.tbox.specs.Concepts.{Axiom}
-use Rattle.tbox.specs.Flatten.{Part, Flat, partAt}
+use Rattle.tbox.specs.Flatten.{Part, Flat, separate, Flattening, flattenBy, partAt}
 use Rattle.tbox.specs.Truth.{roleOn}
 use Rattle.tbox.specs.Bounds.{AxiomRoles, RolesBelow, PartRole}
 use Rattle.tbox.specs.Reading.{Kb, kb, flatsOf, partsOf, readKb}
@@ -22,13 +22,13 @@ use Rattle.tbox.proofs.Promised.{kb-bounded, kb-restricted}
 use Rattle.semantics.specs.Interpretations.{Interpretation, models, Satisfiable}
 use Rattle.semantics.specs.Dominoes.{Dominoes, Met, total, leftOf, rolesOf, rightOf, unnumbered}
 use Rattle.semantics.specs.Conditions.{InRange, LargestStable, canonDominoes}
-use Rattle.semantics.specs.Views.{viewOf, kbView}
+use Rattle.semantics.specs.Views.{viewOf, kbView, separateView}
 use Rattle.semantics.specs.Projection.{partsIn, roleBit, roleSet, projectionOf, projection}
 use Rattle.semantics.specs.Flattens.{Flattens}
 use Rattle.semantics.specs.Labelling.{Labelling}
 use Rattle.semantics.specs.Layers.{labelAt, leads, rolesAt, layered, Enumerates, rising}
 use Rattle.semantics.proofs.Truths.{iff-eq, not-true, and-l, true-eqb}
-use Rattle.semantics.proofs.Flattening.{flatten-flattens}
+use Rattle.semantics.proofs.Flattening.{flatten-flattens, separate-faithful, judged-flattens}
 use Rattle.semantics.proofs.Meaning.{models-labelling, labelling-models, parts-out}
 use Rattle.semantics.proofs.Canonical.{canon-largest}
 use Rattle.semantics.proofs.Projecting.{role-even, role-odd, domino-in, projection-range, projection-stable}
@@ -192,7 +192,7 @@ same-verdict s L below restricted ps ps′ fs fs′ F F′ C C′ best best′ =
 
 module _ (limit : ℕ) (sheet : List ℕ) (k : Kb) (e : readKb limit sheet ≡ kb k) where
   flat : Flattens (k .axioms) (partsOf k) (flatsOf k)
-  flat = flatten-flattens (k .names) (k .axioms) (kb-bounded limit sheet e .names)
+  flat = judged-flattens (k .names) (k .axioms) (kb-bounded limit sheet e .names)
 
   -- the canonical domino set is not empty exactly if the knowledge base has a finite model
   pub sheet-verdict : Met (canonDominoes (kbView k)) ↔ Satisfiable (k .axioms)
@@ -207,3 +207,13 @@ module _ (limit : ℕ) (sheet : List ℕ) (k : Kb) (e : readKb limit sheet ≡ k
   model-dominoes I h =
       model-in (k .axioms) (k .roles) (partsOf k) (flatsOf k) flat (kb-bounded limit sheet e .roles) (kb-restricted limit sheet e)
       (canonDominoes (kbView k)) (canon-largest (kbView k)) I h
+
+  -- 02, N4: sharing changes no verdict. The canonical set is there for any number of parts, so without sharing there may be
+  -- more than the limit.
+  pub sharing-verdict : Met (canonDominoes (kbView k)) ↔ Met (canonDominoes (separateView k))
+  sharing-verdict =
+      let F : Flattening = flattenBy separate (k .names) (k .axioms) in
+      same-verdict (k .axioms) (k .roles) (kb-bounded limit sheet e .roles) (kb-restricted limit sheet e)
+      (partsOf k) (F .parts) (flatsOf k) (F .axioms) flat
+      (flatten-flattens separate separate-faithful (k .names) (k .axioms) (kb-bounded limit sheet e .names))
+      (canonDominoes (kbView k)) (canonDominoes (separateView k)) (canon-largest (kbView k)) (canon-largest (separateView k))

@@ -1,24 +1,26 @@
 -- What it is for parts and flattened axioms to flatten a knowledge base (002, section 2.2): the numbering, the order and the
 -- sharing of parts are left open. Assumes nothing: these are definitions.
-use Prim.Native.Nat.{ℕ}
+use Prim.Native.Nat.{ℕ, _<_}
 use mathlib.Core.Path.{_≡_}
+use mathlib.Core.Bool.{true}
 use mathlib.Core.Option.{Option, none, some}
-use mathlib.Core.List.{List, [], _∷_}
+use mathlib.Core.List.{List}
+use lib.ListN.{length}
 use Rattle.tbox.specs.Concepts.{Role, Axiom}
 use Rattle.tbox.specs.Normal.{Tag, Nf, topN, bottomN, nameN, notN, andN, orN, existsN, forallN, axiomNf}
-use Rattle.tbox.specs.Flatten.{Filler, everything, nothing, part, Part, nameP, freshP, existsP, forallP, Flat, topF, bottomF, partF, notF, andF, orF, atom, partAt}
+use Rattle.tbox.specs.Flatten.{Atom, everything, nothing, nameA, Filler, atomic, fresh, Part, nameP, freshP, existsP, forallP, Flat, topF, bottomF, partF, notF, andF, orF, atom, alike, Lookup, partAt}
 use Rattle.tbox.specs.Bounds.{All, AxiomRoles, PartRole, PartPlain}
 
 -- a filler that needs no fresh name: a name stands at its own number
-unfoldable pub AtomAt : (ℕ → Part) → Filler → Type 0
+unfoldable pub AtomAt : (ℕ → Part) → Atom → Type 0
 AtomAt m everything = Unit
 AtomAt m nothing = Unit
-AtomAt m (part t) = m t ≡ nameP t
+AtomAt m (nameA t) = m t ≡ nameP t
 
 -- `f` stands for the filler c, a fresh name with its axiom among R if c is no atom; `laid` says which trees lay out c
-unfoldable pub Fills : (ℕ → Part) → (Flat → Type 0) → Nf → (Flat → Type 0) → Filler → Option Filler → Type 0
-Fills m R c laid f (some a) = (f ≡ a) × AtomAt m a
-Fills m R c laid f none = (j : ℕ) × (g : Tag) × (h : Flat) × (f ≡ part j) × (m j ≡ freshP g c) × R (orF (notF j) h) × laid h
+unfoldable pub Fills : (ℕ → Part) → (Flat → Type 0) → Nf → (Flat → Type 0) → Filler → Option Atom → Type 0
+Fills m R c laid f (some a) = (f ≡ atomic a) × AtomAt m a
+Fills m R c laid f none = (j : ℕ) × (g : Tag) × (h : Flat) × (f ≡ fresh j) × (m j ≡ freshP g c) × R (orF (notF j) h) × laid h
 
 -- the tree h lays out c, where part k is m k and R says which trees are flattened axioms
 unfoldable pub Laid : (ℕ → Part) → (Flat → Type 0) → Nf → Flat → Type 0
@@ -43,3 +45,7 @@ pub record Flattens (s : List Axiom) (ps : List Part) (fs : List Flat) : Type 1 
   pub sound : (S : Nf → Type 0) → All (λ a. S (axiomNf a)) s → All (Origin (partAt ps) S) fs
   pub fillers : (k : ℕ) → PartPlain (partAt ps) (partAt ps k)
   pub roles : (Q : Role → Type 0) → AxiomRoles Q s → (k : ℕ) → PartRole Q (partAt ps k)
+
+-- a lookup that finds only parts that are there and are like the one looked for
+abbrev pub Faithful : Lookup → Type 0
+Faithful find = (p : Part) (so : List Part) (j : ℕ) → find p so ≡ some j → (j < length so) × (alike p (partAt so j) ≡ true)

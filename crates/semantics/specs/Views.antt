@@ -4,7 +4,7 @@ use mathlib.Core.Bool.{Bool, true, false}
 use mathlib.Core.List.{List}
 use lib.ListN.{length}
 use Rattle.bitset.specs.Bits.{bit}
-use Rattle.tbox.specs.Flatten.{Filler, everything, nothing, part, Part, nameP, freshP, existsP, forallP, Flat, partAt}
+use Rattle.tbox.specs.Flatten.{everything, nothing, nameA, Filler, atomic, fresh, Part, nameP, freshP, existsP, forallP, Flat, separate, Flattening, flattenBy, partAt}
 use Rattle.tbox.specs.Truth.{kbOn}
 use Rattle.tbox.specs.Promise.{kindOf, roleHolds}
 use Rattle.tbox.specs.Reading.{Kb, flatsOf, partsOf}
@@ -12,9 +12,10 @@ use Rattle.semantics.specs.Conditions.{View}
 
 -- "everything is in each mark set and nothing in none"
 unfoldable pub fillerIn : Filler → (ℕ → Bool) → Bool
-fillerIn everything a = true
-fillerIn nothing a = false
-fillerIn (part k) a = a k
+fillerIn (atomic everything) a = true
+fillerIn (atomic nothing) a = false
+fillerIn (atomic (nameA t)) a = a t
+fillerIn (fresh j) a = a j
 
 -- is a restriction's filler in the label B
 unfoldable pub hasFiller : Part → ℕ → Bool
@@ -37,3 +38,7 @@ viewOf L fs ps = record {
 -- for a knowledge base
 abbrev pub kbView : Kb → View
 kbView k = viewOf (k .roles) (flatsOf k) (partsOf k)
+
+-- for a knowledge base before 02, by 01's "Each occurrence has a mark of its own, even where two are written alike."
+abbrev pub separateView : Kb → View
+separateView k = let F : Flattening = flattenBy separate (k .names) (k .axioms) in viewOf (k .roles) (F .axioms) (F .parts)

@@ -1,10 +1,10 @@
 -- Laws on normal forms by the kind of a record, read plainly and under a not: as fillers, and what they add to the parts.
 use Prim.Native.Nat.{ℕ, suc, _≤_, _<_}
-use mathlib.Core.Path.{_≡_, refl, sym, ap, _∙_}
+use mathlib.Core.Path.{_≡_, refl, ap, _∙_}
 use mathlib.Core.Logic.{_⊎_, inl, inr, ⊎-elim}
 use mathlib.Core.Bool.{Bool, true, false, not}
 use mathlib.Core.Option.{Option, none, some}
-use mathlib.Core.List.{List, _++_, append-assoc}
+use mathlib.Core.List.{List, _++_, append-assoc, append-nil}
 use lib.ListN.{length, List·getD-eq-default}
 use native.Mathlib.Omega.{arith}
 use native.Mathlib.Decide.{ℕ-discrete, decLt}
@@ -12,10 +12,11 @@ use Rattle.tbox.specs.declared.records.Entry.{Entry}
 use Rattle.tbox.specs.Scan.{recordAt, blank}
 use Rattle.tbox.specs.Concepts.{Role, nodeOf}
 use Rattle.tbox.specs.Normal.{Tag, tag, Nf, topN, bottomN, nameN, notN, andN, orN, existsN, forallN, plain, negated}
-use Rattle.tbox.specs.Flatten.{Filler, everything, nothing, part, Part, freshP, existsP, forallP, atom, walk, meetOne}
-use Rattle.tbox.specs.Tables.{flag, conceptBelow, roleBelow, nfBelow, AtomIs, partWord, fillerFor, Restricts, Stands, Held, Adds, Met}
+use Rattle.tbox.specs.Flatten.{Atom, everything, nothing, nameA, Filler, atomic, fresh, Part, freshP, existsP, forallP, atom, shared, placed, walkBy, meetOne}
+use Rattle.tbox.specs.Tables.{flag, conceptBelow, roleBelow, nfBelow, AtomIs, partWord, fillerWord, restriction, FillerAt, Restricts, Stands, Held, Pushed, Adds, placeIn, Met}
 use Rattle.tbox.proofs.Trees.{concept-is, concept-past, concept-low, concept-none}
-use Rattle.tbox.proofs.Holding.{held-push, adds-none, adds-and, adds-or}
+use Rattle.tbox.proofs.Holding.{held-push, held-length, held-over, adds-none, adds-and, adds-or}
+use Rattle.tbox.proofs.Alike.{found-at}
 
 -- the same of both normal forms of record r, plain and negated
 abbrev Both : (Nf → Type 0) → List Entry → ℕ → ℕ → Type 0
@@ -114,14 +115,26 @@ atom-nothing = record { is = refl; byte = λ t e. let z : _≡_ {A = ℕ} 0 1 = 
 atom-fresh : AtomIs none 258
 atom-fresh = record { is = refl; byte = λ t e. let z : _≡_ {A = ℕ} 0 1 = cc in absurd (omega arith) }
 
-atom-part : (t : ℕ) → t < 256 → AtomIs (some (part t)) t
+atom-part : (t : ℕ) → t < 256 → AtomIs (some (nameA t)) t
 atom-part t h = record { is = refl; byte = λ s e. let z : t ≡ s = cc in omega arith }
 
 -- only one that needs a fresh name has 258
-pub atom-some : {a : Filler} {f : ℕ} → AtomIs (some a) f → f ≡ 258 → ⊥
+pub atom-some : {a : Atom} {f : ℕ} → AtomIs (some a) f → f ≡ 258 → ⊥
 atom-some {a = everything} h e = omega (arith, h .is)
 atom-some {a = nothing} h e = omega (arith, h .is)
-atom-some {a = part t} h e = omega (arith, h .is, h .byte t refl)
+atom-some {a = nameA t} h e = omega (arith, h .is, h .byte t refl)
+
+-- its number is low
+pub atom-low : {o : Option Atom} {f : ℕ} → AtomIs o f → f < 259
+atom-low {o = none} h = omega (arith, h .is)
+atom-low {o = some everything} h = omega (arith, h .is)
+atom-low {o = some nothing} h = omega (arith, h .is)
+atom-low {o = some (nameA t)} h = omega (arith, h .is, h .byte t refl)
+
+atom-at : {a : Atom} {f : ℕ} (k : ℕ) → AtomIs (some a) f → FillerAt k (atomic a)
+atom-at {a = everything} k h = tt
+atom-at {a = nothing} k h = tt
+atom-at {a = nameA t} k h = h .byte t refl
 
 -- the normal forms of record r as fillers
 abbrev Atoms : List Entry → ℕ → ℕ → ℕ → ℕ → Type 0
@@ -189,49 +202,65 @@ module _ (limit : ℕ) (es : List Entry) (r : ℕ) (e : Entry) (p : e ≡ record
   abbrev filler : Nf
   filler = nfBelow odd es r (e .second)
 
-  module _ (part-of : Filler → Part) (word : ℕ) (stands : (n : ℕ) (f : Filler) → Restricts es n source role f → Stands es n word (part-of f)) where
-    restricts : (n : ℕ) (o : Option Filler) → atom filler ≡ o → Restricts es n source role (fillerFor n o)
-    restricts n o q =
-        record {
-          byte = br;
-          written = ap (λ (x : Entry). x .second) p;
-          role = ap (λ (x : Entry). roleBelow es r (x .first)) p;
-          filler = ap (fillerFor n) (sym q ∙ ap (λ (x : Entry). atom (nfBelow odd es r (x .second))) p);
-        }
+  -- of one kind
+  module _ (kind : ℕ) (part-of : Filler → Part) (of-kind : (f : Filler) → restriction kind source role f ≡ part-of f)
+      (stands : (n : ℕ) (f : Filler) → Restricts es n source role f → Stands es n (partWord kind (flag odd) r (fillerWord f)) (part-of f)) where
+    restricts : (n : ℕ) (f : Filler) → FillerAt n f → Restricts es n source role f
+    restricts n f h = record { byte = br; role = ap (λ (x : Entry). roleBelow es r (x .first)) p; filler = h }
+
+    -- with an atom for its filler
+    module _ (before : List ℕ) (n a : ℕ) (after : List ℕ) (m : ℕ) (so : List Part) (h : Held limit es before n so) (b : Atom) (i : AtomIs (some b) a) where
+      own : Stands es (length so) (partWord kind (flag odd) r a) (part-of (atomic b))
+      own = rw (i .is) (stands (length so) (atomic b) (restricts (length so) (atomic b) (atom-at (length so) i)))
+
+      place-parts : (j : ℕ) → n ≤ limit → (o : Option ℕ) → shared (part-of (atomic b)) so ≡ o → j ≡ placeIn n o →
+          (j < n → (after ≡ before) × (m ≡ n)) → (n ≤ j → Pushed limit before n (partWord kind (flag odd) r a) after m) →
+          Held limit es after m (so ++ placed (part-of (atomic b)) so o .parts)
+      unfolding placed
+      place-parts j l (some k) q e old new =
+          let w = found-at (part-of (atomic b)) so k q in
+          let x = old (omega (arith, w .0, held-length l h)) in
+          rw (x .0, x .1, append-nil) h
+      place-parts j l none q e old new = held-push (part-of (atomic b)) h own (new (omega arith))
 
     met-parts : (before : List ℕ) (n a : ℕ) (after : List ℕ) (m : ℕ) → AtomIs (atom filler) a →
-        Met limit before n word (partWord 1 (flag odd) (e .second)) a after m → (so : List Part) → Held limit es before n so →
-        Held limit es after m (so ++ meetOne part-of source filler so (atom filler) .parts)
+        Met limit es kind role before n (partWord kind (flag odd) r a) (partWord 1 (flag odd) (e .second) 0) a after m →
+        (so : List Part) → Held limit es before n so → Held limit es after m (so ++ meetOne shared part-of source filler so (atom filler) .parts)
     unfolding meetOne
-    met-parts before n a after m is w so h = go (atom filler) refl is
+    met-parts before n a after m is w so h = fits (decLt limit n)
       where
-        own : (o : Option Filler) → atom filler ≡ o → Stands es (length so) word (part-of (fillerFor (length so) o))
-        own o q = stands (length so) (fillerFor (length so) o) (restricts (length so) o q)
-
-        fresh : atom filler ≡ none → filler ≡ nfBelow odd es (length es) (e .second)
-        fresh q =
+        behind : atom filler ≡ none → filler ≡ nfBelow odd es (length es) (e .second)
+        behind q =
             let b = fresh-below odd es r (e .second) q in
             let x = within es r e p k in
             nf-same odd es r (length es) (e .second) (concept-low es r (length es) (e .second) b (omega arith))
 
-        go : (o : Option Filler) → atom filler ≡ o → AtomIs o a → Held limit es after m (so ++ meetOne part-of source filler so o .parts)
-        go (some f) q i = held-push (part-of f) h (own (some f) q) (w .alone (atom-some i))
-        go none q i =
-            let v = w .both (i .is) in
-            let one = held-push (part-of (part (suc (length so)))) h (own none q) (v .2) in
-            let two = held-push (freshP source filler) one (refl, bs, fresh q) (v .3) in
+        go : n ≤ limit → (o : Option Atom) → atom filler ≡ o → AtomIs o a → Held limit es after m (so ++ meetOne shared part-of source filler so o .parts)
+        go l (some b) q i =
+            let v = w .place l (atom-some i) in
+            let first = v .1 .holds so (held-length l h) (h .stand (omega (arith, held-length l h))) source b i in
+            place-parts before n a after m so h b i (v .0) l (shared (part-of (atomic b)) so) refl (rw (of-kind (atomic b)) at first) (v .2) (v .3)
+        go l none q i =
+            let v = w .both l (i .is) in
+            let f : Filler = fresh (suc (length so)) in
+            let one = held-push (part-of f) h (rw (i .is) (stands (length so) f (restricts (length so) f refl))) (v .2) in
+            let two = held-push (freshP source filler) one (refl, bs, behind q) (v .3) in
             rw append-assoc at two
 
-  module _ (c : Nf) (before : List ℕ) (n a : ℕ) (after : List ℕ) (m : ℕ) (is : AtomIs (atom filler) a) where
-    pub adds-exists : c ≡ existsN source role filler → Met limit before n (partWord 2 (flag odd) r) (partWord 1 (flag odd) (e .second)) a after m →
-        Adds limit es c before n after m
-    unfolding walk
-    adds-exists q w = rw q (met-parts (existsP source role) (partWord 2 (flag odd) r) (λ j f x. (refl, x)) before n a after m is w)
+        fits : Dec (limit < n) → Held limit es after m (so ++ meetOne shared part-of source filler so (atom filler) .parts)
+        fits (yes o) = rw (w .over o) (held-over after _ h o)
+        fits (no o) = go (omega (arith, o)) (atom filler) refl is
 
-    pub adds-forall : c ≡ forallN source role filler → Met limit before n (partWord 3 (flag odd) r) (partWord 1 (flag odd) (e .second)) a after m →
-        Adds limit es c before n after m
-    unfolding walk
-    adds-forall q w = rw q (met-parts (forallP source role) (partWord 3 (flag odd) r) (λ j f x. (refl, x)) before n a after m is w)
+  module _ (c : Nf) (before : List ℕ) (n a : ℕ) (after : List ℕ) (m : ℕ) (is : AtomIs (atom filler) a) where
+    pub adds-exists : c ≡ existsN source role filler →
+        Met limit es 2 role before n (partWord 2 (flag odd) r a) (partWord 1 (flag odd) (e .second) 0) a after m → Adds limit es c before n after m
+    unfolding walkBy
+    adds-exists q w = rw q (met-parts 2 (existsP source role) (λ f. refl) (λ j f x. (refl, x)) before n a after m is w)
+
+    pub adds-forall : c ≡ forallN source role filler →
+        Met limit es 3 role before n (partWord 3 (flag odd) r a) (partWord 1 (flag odd) (e .second) 0) a after m → Adds limit es c before n after m
+    unfolding walkBy
+    adds-forall q w = rw q (met-parts 3 (forallP source role) (λ f. refl) (λ j f x. (refl, x)) before n a after m is w)
 
 module _ (limit : ℕ) (es : List Entry) (below r : ℕ) (e : Entry) (h : r < below) (p : e ≡ recordAt es r) where
   -- and, or: first the one, then the other
@@ -246,7 +275,7 @@ module _ (limit : ℕ) (es : List Entry) (below r : ℕ) (e : Entry) (h : r < be
 
   -- every other kind adds nothing
   pub adds-leaf : (t : List ℕ) (n : ℕ) → (4 ≤ e .kind → 8 < e .kind) → Both (λ c. Adds limit es c t n t n) es below r
-  unfolding walk
+  unfolding walkBy
   adds-leaf t n o = at (ℕ-discrete (e .kind) 1) (ℕ-discrete (e .kind) 3)
     where
       at : Dec (e .kind ≡ 1) → Dec (e .kind ≡ 3) → Both (λ c. Adds limit es c t n t n) es below r
@@ -261,7 +290,7 @@ module _ (limit : ℕ) (es : List Entry) (below r : ℕ) (e : Entry) (h : r < be
           (rw (q .0) (adds-none limit es bottomN t n (λ _. refl)), rw (q .1) (adds-none limit es topN t n (λ _. refl)))
 
 pub adds-past : (limit : ℕ) (es : List Entry) (below r : ℕ) (t : List ℕ) (n : ℕ) → below ≤ r → Both (λ c. Adds limit es c t n t n) es below r
-unfolding walk
+unfolding walkBy
 adds-past limit es below r t n h =
     let q = nf-past es below r h in
     (rw (q .0) (adds-none limit es bottomN t n (λ _. refl)), rw (q .1) (adds-none limit es topN t n (λ _. refl)))

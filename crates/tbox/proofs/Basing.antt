@@ -1,8 +1,6 @@
 -- Laws on the flattened knowledge base as plain data: from a part's word to what is promised of the part.
 use Prim.Native.Nat.{ℕ, _+_, _-_, _*_, _/_, _%_, _^_, _≤_, _<_}
 use mathlib.Core.Path.{_≡_, refl, sym, ap, _∙_}
-use mathlib.Core.Bool.{Bool}
-use mathlib.Core.Option.{Option, none, some}
 use mathlib.Core.List.{List}
 use lib.ListN.{getD}
 use lib.Pow.{pow-mono, pow-add}
@@ -18,13 +16,13 @@ use Rattle.tbox.specs.declared.base.Base.{Base}
 use Rattle.tbox.specs.Scan.{recordAt}
 use Rattle.tbox.specs.Concepts.{Role}
 use Rattle.tbox.specs.Normal.{Tag}
-use Rattle.tbox.specs.Flatten.{Filler, everything, nothing, part, Part, atom, partAt}
+use Rattle.tbox.specs.Flatten.{everything, nothing, nameA, Filler, atomic, fresh, Part, partAt}
 use Rattle.tbox.specs.Truth.{kbOn, roleOn}
 use Rattle.tbox.specs.Reading.{partsOf, flatsOf}
 use Rattle.tbox.specs.Answers.{oddNo}
 use Rattle.tbox.specs.Promise.{fillerNo, fillerOf, roleHolds, Loads}
-use Rattle.tbox.specs.Tables.{flag, seen, roleBelow, nfBelow, AtomIs, partWord, fillerFor, Restricts, Stands, kbAdmitted, Admits, fillerCode}
-use Rattle.tbox.proofs.Standing.{flag-low, flag-same, word-odd, word-number, stand-kind, stand-name, stand-restriction}
+use Rattle.tbox.specs.Tables.{seen, roleBelow, partWord, fillerWord, FillerAt, Restricts, Stands, kbAdmitted, Admits, fillerCode}
+use Rattle.tbox.proofs.Standing.{flag-low, word-number, word-filler, stand-kind, stand-name, stand-restriction}
 use Rattle.tbox.proofs.Admitting.{count-is, stood}
 
 -- the words that so many bits take
@@ -50,41 +48,37 @@ module _ (es : List Entry) (k x : ℕ) (p : Part) (l : x % 4 < 2) (h : Stands es
   name-role w = stand-name es k x (λ p. 0 ≡ wordAt (roleHolds p) w) p l h (λ t. sym (wordAt-none w)) (λ g c. sym (wordAt-none w))
 
 -- the number of a filler
-code-is : (o : Option Filler) (f i : ℕ) → AtomIs o f → fillerCode f i ≡ fillerNo (fillerFor i o)
+code-is : (i : ℕ) (f : Filler) → FillerAt i f → fillerCode (fillerWord f) i ≡ fillerNo f
 unfolding fillerNo
-code-is none f i h = rw (h .is) (add-one i)
-code-is (some everything) f i h = rw (h .is) refl
-code-is (some nothing) f i h = rw (h .is) refl
-code-is (some (part t)) f i h =
-    let l = h .byte t refl in
-    rw (h .is) (simp (ne-eqb t 256 (λ e. omega arith), ne-eqb t 257 (λ e. omega arith), ne-eqb t 258 (λ e. omega arith)) (mod-eq-of-lt l))
+code-is i (fresh j) h = add-one i ∙ sym h
+code-is i (atomic everything) h = refl
+code-is i (atomic nothing) h = refl
+code-is i (atomic (nameA t)) h =
+    simp (ne-eqb t 256 (λ e. omega arith), ne-eqb t 257 (λ e. omega arith), ne-eqb t 258 (λ e. omega arith)) (mod-eq-of-lt h)
 
--- a restriction's filler, read plainly or under a not, and its role
-module _ (es : List Entry) (i x : ℕ) (e : Entry) (ee : e ≡ recordAt es (x / 8 % 256)) where
-  module _ (kind : ℕ) (g : Tag) (u : Role) (fl : Filler) (kk : kind < 4) (xx : x ≡ partWord kind (oddNo g) (g .source)) (r : Restricts es i g u fl) where
-    source-is : x / 8 % 256 ≡ g .source
-    source-is = word-number x kind (oddNo g) (g .source) xx kk (flag-low (g .odd)) (r .byte)
+-- a restriction's filler
+pub filler-is : (es : List Entry) (i x : ℕ) (p : Part) → 2 ≤ x % 4 → Stands es i x p → fillerCode (x / 2048) i ≡ fillerOf p
+unfolding fillerOf
+filler-is es i x p l h =
+    stand-restriction es i x (λ p. fillerCode (x / 2048) i ≡ fillerOf p) p l h
+    (λ kind g u f kk xx r.
+    let w = word-filler x kind (oddNo g) (g .source) (fillerWord f) xx kk (flag-low (g .odd)) (r .byte) in
+    let z : fillerCode (x / 2048) i ≡ fillerNo f = rw w (code-is i f (r .filler)) in
+    (z, z))
 
-    restricted-filler : (odd : Bool) (f : ℕ) → x / 4 % 2 ≡ flag odd → AtomIs (atom (nfBelow odd es (x / 8 % 256) (e .second))) f → fillerCode f i ≡ fillerNo fl
-    restricted-filler odd f q a =
-        let o : g .odd ≡ odd = flag-same (g .odd) odd (sym (word-odd x kind (oddNo g) (g .source) xx kk (flag-low (g .odd))) ∙ q) in
-        code-is (atom (nfBelow odd es (x / 8 % 256) (e .second))) f i a ∙ ap fillerNo (sym (r .filler ∙ rw (ee, source-is, o) refl))
-
-    restricted-role : (w : ℕ) → wordAt (roleOn (roleBelow es (x / 8 % 256) (e .first))) w ≡ wordAt (roleOn u) w
-    restricted-role w = rw (r .role, ee, source-is) refl
-
-  module _ (p : Part) (l : 2 ≤ x % 4) (h : Stands es i x p) where
-    pub filler-is : (odd : Bool) (f : ℕ) → x / 4 % 2 ≡ flag odd → AtomIs (atom (nfBelow odd es (x / 8 % 256) (e .second))) f → fillerCode f i ≡ fillerOf p
-    unfolding fillerOf
-    filler-is odd f q a =
-        stand-restriction es i x (λ p. fillerCode f i ≡ fillerOf p) p l h
-        (λ kind g u fl kk xx r. let z = restricted-filler kind g u fl kk xx r odd f q a in (z, z))
-
-    pub role-holds : (w : ℕ) → wordAt (roleOn (roleBelow es (x / 8 % 256) (e .first))) w ≡ wordAt (roleHolds p) w
-    unfolding roleHolds
-    role-holds w =
-        stand-restriction es i x (λ p. wordAt (roleOn (roleBelow es (x / 8 % 256) (e .first))) w ≡ wordAt (roleHolds p) w) p l h
-        (λ kind g u fl kk xx r. let z = restricted-role kind g u fl kk xx r w in (z, z))
+-- and its role
+pub role-holds : (es : List Entry) (i x : ℕ) (e : Entry) → e ≡ recordAt es (x / 8 % 256) → (p : Part) → 2 ≤ x % 4 → Stands es i x p → (w : ℕ) →
+    wordAt (roleOn (roleBelow es (x / 8 % 256) (e .first))) w ≡ wordAt (roleHolds p) w
+unfolding roleHolds
+role-holds es i x e ee p l h w =
+    stand-restriction es i x (λ p. wordAt (roleOn (roleBelow es (x / 8 % 256) (e .first))) w ≡ wordAt (roleHolds p) w) p l h
+    (λ kind g u f kk xx r. let z = same kind g u f kk xx r in (z, z))
+  where
+    same : (kind : ℕ) (g : Tag) (u : Role) (f : Filler) → kind < 4 → x ≡ partWord kind (oddNo g) (g .source) (fillerWord f) → Restricts es i g u f →
+        wordAt (roleOn (roleBelow es (x / 8 % 256) (e .first))) w ≡ wordAt (roleOn u) w
+    same kind g u f kk xx r =
+        let s : x / 8 % 256 ≡ g .source = word-number x kind (oddNo g) (g .source) (fillerWord f) xx kk (flag-low (g .odd)) (r .byte) in
+        rw (r .role, ee, s) refl
 
 -- the words of a part's role, found by the part and the word
 pub role-index : (es : List Entry) (ps rs : List ℕ) (n : ℕ) →

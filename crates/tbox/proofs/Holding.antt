@@ -10,9 +10,10 @@ use native.Mathlib.Omega.{arith}
 use native.Mathlib.Decide.{ℕ-discrete}
 use borrow.Author.Tests.{ltb-true, ltb-false, lt-ltb, le-ltb}
 use Rattle.tbox.specs.declared.records.Entry.{Entry}
+use Rattle.tbox.specs.Concepts.{Role}
 use Rattle.tbox.specs.Normal.{Nf, andN, orN}
-use Rattle.tbox.specs.Flatten.{Part, walk, partAt, noPart}
-use Rattle.tbox.specs.Tables.{Stands, Stood, Held, Adds, Pushed, Met}
+use Rattle.tbox.specs.Flatten.{Part, walkBy, walk, partAt, noPart}
+use Rattle.tbox.specs.Tables.{Stands, Stood, Held, Adds, Pushed, Sought, FirstAlike, Met}
 
 -- what holds of the first i entries, and of a new one
 each-set : (P : ℕ → ℕ → Type 0) (l : List ℕ) (i v : ℕ) → i < length l → ((k : ℕ) → k < i → P k (getD l k 0)) → P i v →
@@ -71,6 +72,12 @@ pub held-longer : {limit : ℕ} {es : List Entry} {t : List ℕ} {n : ℕ} {so p
     Held limit es t n ps
 held-longer h o l = record { count = omega (arith, h .count); stand = λ f. absurd (omega (arith, h .count)) }
 
+-- and so is one with parts more
+pub held-over : {limit : ℕ} {es : List Entry} {t : List ℕ} {n : ℕ} {so : List Part} (t′ : List ℕ) (more : List Part) → Held limit es t n so → limit < n →
+    Held limit es t′ n (so ++ more)
+held-over {so = so} t′ more h o =
+    record { count = omega (arith, h .count, length-append so more); stand = λ f. absurd (omega (arith, h .count, length-append so more)) }
+
 -- what the code puts at the end
 pub pushed-fits : {limit : ℕ} {before : List ℕ} {n word : ℕ} {after : List ℕ} → n < limit → n < length before → after ≡ set before n word →
     Pushed limit before n word after (n + 1)
@@ -79,13 +86,33 @@ pushed-fits {limit} {before} {n} {word} {after} h r e = record { count = rw (lt-
 pub pushed-over : (limit : ℕ) (before : List ℕ) (n word : ℕ) → limit ≤ n → Pushed limit before n word before (limit + 1)
 pushed-over limit before n word h = record { count = rw (le-ltb n limit h) refl; table = rw (le-ltb n limit h) refl; room = λ i. absurd (omega arith) }
 
-module _ {limit : ℕ} {before : List ℕ} {n x first second a : ℕ} {after : List ℕ} {m : ℕ} where
-  pub met-alone : (a ≡ 258 → ⊥) → x ≡ first → Pushed limit before n x after m → Met limit before n first second a after m
-  met-alone h p w = record { alone = λ _. rw p at w; both = λ e. absurd (h e) }
+-- a restriction met
+module _ {limit : ℕ} {es : List Entry} {kind : ℕ} {u : Role} {before : List ℕ} {n first second a : ℕ} {after : List ℕ} {m : ℕ} where
+  pub met-both : {x y : ℕ} {t : List ℕ} {k : ℕ} → n ≤ limit → a ≡ 258 → x ≡ first → y ≡ second → Pushed limit before n x t k →
+      Pushed limit t k y after m → Met limit es kind u before n first second a after m
+  met-both {t = t} {k} l h p q v w =
+      record { over = λ o. absurd (omega arith); both = λ _ _. (t, k, rw p at v, rw q at w); place = λ _ e. absurd (e h) }
 
-  pub met-both : {y : ℕ} {t : List ℕ} {k : ℕ} → a ≡ 258 → x ≡ first → y ≡ second → Pushed limit before n x t k → Pushed limit t k y after m →
-      Met limit before n first second a after m
-  met-both {y} {t} {k} h p q v w = record { alone = λ e. absurd (e h); both = λ _. (t, k, rw p at v, rw q at w) }
+  pub met-new : {x j : ℕ} → n ≤ limit → (a ≡ 258 → ⊥) → Sought es before n kind u a (FirstAlike n j) → n ≤ j → x ≡ first →
+      Pushed limit before n x after m → Met limit es kind u before n first second a after m
+  met-new {x} {j} l h s i p w =
+      record {
+        over = λ o. absurd (omega arith);
+        both = λ _ e. absurd (h e);
+        place = λ _ _. (j, s, (λ o. absurd (omega arith)), λ _. rw p at w);
+      }
+
+module _ {limit : ℕ} {es : List Entry} {kind : ℕ} {u : Role} {t : List ℕ} {n first second a : ℕ} where
+  pub met-over : limit < n → Met limit es kind u t n first second a t n
+  met-over l = record { over = λ _. refl; both = λ i. absurd (omega arith); place = λ i. absurd (omega arith) }
+
+  pub met-shared : {j : ℕ} → n ≤ limit → (a ≡ 258 → ⊥) → Sought es t n kind u a (FirstAlike n j) → j < n → Met limit es kind u t n first second a t n
+  met-shared {j} l h s i =
+      record {
+        over = λ o. absurd (omega arith);
+        both = λ _ e. absurd (h e);
+        place = λ _ _. (j, s, (λ _. (refl, refl)), λ o. absurd (omega arith));
+      }
 
 -- what going through a concept adds
 module _ (limit : ℕ) (es : List Entry) where
@@ -102,9 +129,9 @@ module _ (limit : ℕ) (es : List Entry) where
     both-parts a b so h = rw append-assoc at (b (so ++ walk c so .parts) (a so h))
 
     pub adds-and : Adds limit es c before n mid k → Adds limit es d mid k after m → Adds limit es (andN c d) before n after m
-    unfolding walk
+    unfolding walkBy
     adds-and a b so h = both-parts a b so h
 
     pub adds-or : Adds limit es c before n mid k → Adds limit es d mid k after m → Adds limit es (orN c d) before n after m
-    unfolding walk
+    unfolding walkBy
     adds-or a b so h = both-parts a b so h

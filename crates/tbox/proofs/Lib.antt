@@ -5,10 +5,13 @@ pub mod KindTable
 pub mod Trees
 pub mod Formed
 pub mod Bounded
+pub mod Alike
+pub mod Roles
 pub mod Queue
 pub mod Holding
 pub mod Atoms
 pub mod Standing
+pub mod Finding
 pub mod Turning
 pub mod Valuing
 pub mod Wording
@@ -16,4 +19,5 @@ pub mod Slots
 pub mod Admitting
 pub mod Basing
 pub mod Promised
+pub mod Fewer
 pub mod Worked

@@ -17,7 +17,7 @@ use Rattle.tbox.specs.Shapes.{isRestriction}
 use Rattle.tbox.specs.Scan.{State, start, recordAt, orElse, numberFault, sortFault, againFault, referenceFault, name, emptyFault, bodyFault, bodyByte, shapeAt, recordFault, recordAfter, Scanning, refused, whole, scan, scanSheet}
 use Rattle.tbox.specs.Concepts.{Role, Concept, topC, bottomC, nameC, notC, andC, orC, existsC, forallC, Axiom}
 use Rattle.tbox.specs.Normal.{Tag, Nf, topN, bottomN, nameN, notN, andN, orN, existsN, forallN, plain, negated, axiomNf}
-use Rattle.tbox.specs.Flatten.{Filler, everything, nothing, part, Part, nameP, freshP, existsP, forallP, atom, Pending, whole as wholeP, guarded, Walked, meetOne, walk, walkPending, run, weights, nameParts, pendings, flatten, noPart, partAt}
+use Rattle.tbox.specs.Flatten.{Atom, everything, nothing, nameA, Filler, atomic, fresh, Part, nameP, freshP, existsP, forallP, atom, Pending, whole as wholeP, guarded, Walked, Lookup, shared, placed, meetOne, walkBy, walkPendingBy, runBy, weights, nameParts, pendings, flattenBy, noPart, partAt}
 use Rattle.tbox.specs.Truth.{roleOn}
 use Rattle.tbox.specs.Reading.{Kb, refusal, kb, kbOf, partsOf, admit, reading, readKb}
 use Rattle.tbox.specs.Bounds.{All, RolesBelow, NamesBelow, EachRole, AxiomNames, AxiomRoles, AxiomsBelow, PartRole, PartFiller, FillerLow, PartLow, FillerPlain, PartPlain}
@@ -35,11 +35,11 @@ names-at (suc T) t h = pick (names-at T t) (ℕ-discrete t T)
     pick ih (yes q) = rw q (getD-at (nameParts T) (nameP T) [] noPart T (names-length T))
     pick ih (no q) = List·getD-append (nameParts T) (nameP T ∷ []) noPart t (omega (arith, names-length T)) ∙ ih (omega arith)
 
-pub names-within : (T : ℕ) (s : List Axiom) → T ≤ length (flatten T s .parts)
-names-within T s = omega (arith, left-grows (left-start T s), names-length T)
+pub names-within : (find : Lookup) (T : ℕ) (s : List Axiom) → T ≤ length (flattenBy find T s .parts)
+names-within find T s = omega (arith, left-grows (left-start find T s), names-length T)
 
-pub names-first : (T : ℕ) (s : List Axiom) (i : ℕ) → i < T → partAt (flatten T s .parts) i ≡ nameP i
-names-first T s i h = left-part (left-start T s) i (omega (arith, names-length T)) ∙ names-at T i h
+pub names-first : (find : Lookup) (T : ℕ) (s : List Axiom) (i : ℕ) → i < T → partAt (flattenBy find T s .parts) i ≡ nameP i
+names-first find T s i h = left-part (left-start find T s) i (omega (arith, names-length T)) ∙ names-at T i h
 
 -- what holds of each of a list
 pub all-append : {A : Type 0} (P : A → Type 0) (l l′ : List A) → All P l → All P l′ → All P (l ++ l′)
@@ -60,16 +60,17 @@ abbrev Fine : List Part → Filler → Type 0
 Fine so f = FillerLow (length so) f × FillerPlain (partAt so) f
 
 fine-more : (so more : List Part) (f : Filler) → Fine so f → Fine (so ++ more) f
-fine-more so more everything h = (tt, tt)
-fine-more so more nothing h = (tt, tt)
-fine-more so more (part j) h = (omega (arith, length-append so more), rw (List·getD-append so more noPart j (h .0)) (h .1))
+fine-more so more (atomic everything) h = (tt, tt)
+fine-more so more (atomic nothing) h = (tt, tt)
+fine-more so more (atomic (nameA t)) h = (omega (arith, length-append so more), rw (List·getD-append so more noPart t (h .0)) (h .1))
+fine-more so more (fresh j) h = (omega (arith, length-append so more), rw (List·getD-append so more noPart j (h .0)) (h .1))
 
 -- the fresh part behind a restriction
 next-at : (so : List Part) (p q : Part) → partAt (so ++ (p ∷ q ∷ [])) (suc (length so)) ≡ q
 next-at [] p q = refl
 next-at (a ∷ so) p q = next-at so p q
 
-next-fine : (so : List Part) (p : Part) (g : Tag) (c : Nf) → Fine (so ++ (p ∷ freshP g c ∷ [])) (part (suc (length so)))
+next-fine : (so : List Part) (p : Part) (g : Tag) (c : Nf) → Fine (so ++ (p ∷ freshP g c ∷ [])) (fresh (suc (length so)))
 next-fine so p g c = (omega (arith, length-append so (p ∷ freshP g c ∷ [])), rw (next-at so p (freshP g c)) tt)
 
 filler-more : (P R : Filler → Type 0) → ((f : Filler) → P f → R f) → (p : Part) → PartFiller P p → PartFiller R p
@@ -78,8 +79,9 @@ filler-more P R i (freshP g c) h = h
 filler-more P R i (existsP g u f) h = i f h
 filler-more P R i (forallP g u f) h = i f h
 
--- Names below T and Q of the role of each restriction: this goes from the axioms to their normal forms and to the parts.
-module _ (T : ℕ) (Q : Role → Type 0) where
+-- Names below T and Q of the role of each restriction: this goes from the axioms to their normal forms and to the parts,
+-- whichever lookup.
+module _ (find : Lookup) (T : ℕ) (Q : Role → Type 0) where
   abbrev Fits : Nf → Type 0
   Fits topN = Unit
   Fits bottomN = Unit
@@ -151,8 +153,8 @@ module _ (T : ℕ) (Q : Role → Type 0) where
   names-sound : Sound (nameParts T)
   names-sound = record { long = omega (arith, names-length T); first = names-at T; each = names-ok (nameParts T) T }
 
-  abbrev Found : List Part → Option Filler → Type 0
-  Found so (some a) = Fine so a
+  abbrev Found : List Part → Option Atom → Type 0
+  Found so (some a) = Fine so (atomic a)
   Found so none = Unit
 
   atom-found : (so : List Part) (c : Nf) → Sound so → Fits c → Found so (atom c)
@@ -176,62 +178,68 @@ module _ (T : ℕ) (Q : Role → Type 0) where
   keeps-both : (so : List Part) (a b : Walked) → Keeps so a → Keeps (so ++ a .parts) b → Sound (so ++ (a .parts ++ b .parts)) × All Waits (a .later ++ b .later)
   keeps-both so a b h k = (rw (← append-assoc so (a .parts) (b .parts)) (k .0), all-append Waits (a .later) (b .later) (h .1) (k .1))
 
-  meet-keeps : (p : Filler → Part) (g : Tag) (c : Nf) (so : List Part) (o : Option Filler) → ((l : List Part) (f : Filler) → Fine l f → Ok l (p f)) →
-      Fits c → Sound so → Found so o → Keeps so (meetOne p g c so o)
-  unfolding meetOne
-  meet-keeps p g c so (some a) ok h s f = (sound-more so (p a ∷ []) s (ok (so ++ (p a ∷ [])) a (fine-more so (p a ∷ []) a f), tt), tt)
-  meet-keeps p g c so none ok h s f =
-      let next : Part = p (part (suc (length so))) in
-      (sound-more so (next ∷ freshP g c ∷ []) s (ok (so ++ (next ∷ freshP g c ∷ [])) (part (suc (length so))) (next-fine so next g c), ((tt, tt), tt)), (h, tt))
+  placed-keeps : (p : Part) (so : List Part) (o : Option ℕ) → ((more : List Part) → Ok (so ++ more) p) → Sound so → Keeps so (placed p so o)
+  unfolding placed
+  placed-keeps p so (some j) ok s = (keeps-none so s, tt)
+  placed-keeps p so none ok s = (sound-more so (p ∷ []) s (ok (p ∷ []), tt), tt)
 
-  walk-keeps : (c : Nf) (so : List Part) → Fits c → Sound so → Keeps so (walk c so)
-  unfolding walk
+  meet-keeps : (p : Filler → Part) (g : Tag) (c : Nf) (so : List Part) (o : Option Atom) → ((l : List Part) (f : Filler) → Fine l f → Ok l (p f)) →
+      Fits c → Sound so → Found so o → Keeps so (meetOne find p g c so o)
+  unfolding meetOne
+  meet-keeps p g c so (some a) ok h s f =
+      placed-keeps (p (atomic a)) so (find (p (atomic a)) so) (λ more. ok (so ++ more) (atomic a) (fine-more so more (atomic a) f)) s
+  meet-keeps p g c so none ok h s f =
+      let next : Part = p (fresh (suc (length so))) in
+      (sound-more so (next ∷ freshP g c ∷ []) s (ok (so ++ (next ∷ freshP g c ∷ [])) (fresh (suc (length so))) (next-fine so next g c), ((tt, tt), tt)), (h, tt))
+
+  walk-keeps : (c : Nf) (so : List Part) → Fits c → Sound so → Keeps so (walkBy find c so)
+  unfolding walkBy
   walk-keeps topN so h s = (keeps-none so s, tt)
   walk-keeps bottomN so h s = (keeps-none so s, tt)
   walk-keeps (nameN t) so h s = (keeps-none so s, tt)
   walk-keeps (notN t) so h s = (keeps-none so s, tt)
   walk-keeps (andN c d) so h s =
       let a = walk-keeps c so (h .0) s in
-      keeps-both so (walk c so) (walk d (so ++ walk c so .parts)) a (walk-keeps d (so ++ walk c so .parts) (h .1) (a .0))
+      keeps-both so (walkBy find c so) (walkBy find d (so ++ walkBy find c so .parts)) a (walk-keeps d (so ++ walkBy find c so .parts) (h .1) (a .0))
   walk-keeps (orN c d) so h s =
       let a = walk-keeps c so (h .0) s in
-      keeps-both so (walk c so) (walk d (so ++ walk c so .parts)) a (walk-keeps d (so ++ walk c so .parts) (h .1) (a .0))
+      keeps-both so (walkBy find c so) (walkBy find d (so ++ walkBy find c so .parts)) a (walk-keeps d (so ++ walkBy find c so .parts) (h .1) (a .0))
   walk-keeps (existsN g u c) so h s = meet-keeps (existsP g u) g c so (atom c) (λ l f k. (h .0, k)) (h .1) s (atom-found so c s (h .1))
   walk-keeps (forallN g u c) so h s = meet-keeps (forallP g u) g c so (atom c) (λ l f k. (h .0, k)) (h .1) s (atom-found so c s (h .1))
 
-  pending-keeps : (p : Pending) (so : List Part) → Waits p → Sound so → Keeps so (walkPending p so)
-  unfolding walkPending
+  pending-keeps : (p : Pending) (so : List Part) → Waits p → Sound so → Keeps so (walkPendingBy find p so)
+  unfolding walkPendingBy
   pending-keeps (wholeP c) so h s = walk-keeps c so h s
   pending-keeps (guarded f c) so h s = walk-keeps c so h s
 
-  run-keeps : (f : ℕ) (q : List Pending) (so : List Part) → All Waits q → Sound so → Sound (so ++ run f q so .parts)
-  unfolding run
+  run-keeps : (f : ℕ) (q : List Pending) (so : List Part) → All Waits q → Sound so → Sound (so ++ runBy find f q so .parts)
+  unfolding runBy
   run-keeps zero q so h s = keeps-none so s
   run-keeps (suc f) [] so h s = keeps-none so s
   run-keeps (suc f) (p ∷ q) so h s =
-      let w : Walked = walkPending p so in
+      let w : Walked = walkPendingBy find p so in
       let k = pending-keeps p so (h .0) s in
-      rw (← append-assoc so (w .parts) (run f (q ++ w .later) (so ++ w .parts) .parts))
+      rw (← append-assoc so (w .parts) (runBy find f (q ++ w .later) (so ++ w .parts) .parts))
       (run-keeps f (q ++ w .later) (so ++ w .parts) (all-append Waits q (w .later) (h .1) (k .1)) (k .0))
 
   module _ (s : List Axiom) (low : AxiomNames T s) (roles : AxiomRoles Q s) where
-    parts-sound : Sound (flatten T s .parts)
-    unfolding flatten
+    parts-sound : Sound (flattenBy find T s .parts)
+    unfolding flattenBy
     parts-sound = run-keeps (weights (pendings s)) (pendings s) (nameParts T) (pendings-wait s low roles) names-sound
 
-    parts-ok : (i : ℕ) → Ok (flatten T s .parts) (partAt (flatten T s .parts) i)
-    parts-ok = all-at (Ok (flatten T s .parts)) (tt, tt) (flatten T s .parts) (parts-sound .each)
+    parts-ok : (i : ℕ) → Ok (flattenBy find T s .parts) (partAt (flattenBy find T s .parts) i)
+    parts-ok = all-at (Ok (flattenBy find T s .parts)) (tt, tt) (flattenBy find T s .parts) (parts-sound .each)
 
     -- Q holds of the role of each restriction part
-    pub parts-roles : (i : ℕ) → PartRole Q (partAt (flatten T s .parts) i)
+    pub parts-roles : (i : ℕ) → PartRole Q (partAt (flattenBy find T s .parts) i)
     parts-roles i = parts-ok i .0
 
     -- the filler of each is everything, nothing, or a name or a fresh part that is there
-    pub parts-low : (i : ℕ) → PartLow (length (flatten T s .parts)) (partAt (flatten T s .parts) i)
-    parts-low i = filler-more (Fine (flatten T s .parts)) (FillerLow (length (flatten T s .parts))) (λ f h. h .0) (partAt (flatten T s .parts) i) (parts-ok i .1)
+    pub parts-low : (i : ℕ) → PartLow (length (flattenBy find T s .parts)) (partAt (flattenBy find T s .parts) i)
+    parts-low i = filler-more (Fine (flattenBy find T s .parts)) (FillerLow (length (flattenBy find T s .parts))) (λ f h. h .0) (partAt (flattenBy find T s .parts) i) (parts-ok i .1)
 
-    pub parts-plain : (i : ℕ) → PartPlain (partAt (flatten T s .parts)) (partAt (flatten T s .parts) i)
-    parts-plain i = filler-more (Fine (flatten T s .parts)) (FillerPlain (partAt (flatten T s .parts))) (λ f h. h .1) (partAt (flatten T s .parts) i) (parts-ok i .1)
+    pub parts-plain : (i : ℕ) → PartPlain (partAt (flattenBy find T s .parts)) (partAt (flattenBy find T s .parts) i)
+    parts-plain i = filler-more (Fine (flattenBy find T s .parts)) (FillerPlain (partAt (flattenBy find T s .parts))) (λ f h. h .1) (partAt (flattenBy find T s .parts) i) (parts-ok i .1)
 
 -- The state of a sheet that is read.
 kb-whole : (limit : ℕ) (sheet : List ℕ) (k : Kb) → readKb limit sheet ≡ kb k →
@@ -268,17 +276,17 @@ module _ (limit : ℕ) (sheet : List ℕ) {k : Kb} (e : readKb limit sheet ≡ k
 
   -- the filler of a restriction part is everything, nothing, or a name or a fresh part that is there
   pub kb-fillers : (i : ℕ) → PartLow (length (partsOf k)) (partAt (partsOf k) i)
-  kb-fillers = parts-low (k .names) (RolesBelow (k .roles)) (k .axioms) (kb-bounded .names) (kb-bounded .roles)
+  kb-fillers = parts-low shared (k .names) (RolesBelow (k .roles)) (k .axioms) (kb-bounded .names) (kb-bounded .roles)
 
   pub kb-plain : (i : ℕ) → PartPlain (partAt (partsOf k)) (partAt (partsOf k) i)
-  kb-plain = parts-plain (k .names) (RolesBelow (k .roles)) (k .axioms) (kb-bounded .names) (kb-bounded .roles)
+  kb-plain = parts-plain shared (k .names) (RolesBelow (k .roles)) (k .axioms) (kb-bounded .names) (kb-bounded .roles)
 
   -- its role is over roles below the count, and fails on the empty role set
   pub kb-part-roles : (i : ℕ) → PartRole (RolesBelow (k .roles)) (partAt (partsOf k) i)
-  kb-part-roles = parts-roles (k .names) (RolesBelow (k .roles)) (k .axioms) (kb-bounded .names) (kb-bounded .roles)
+  kb-part-roles = parts-roles shared (k .names) (RolesBelow (k .roles)) (k .axioms) (kb-bounded .names) (kb-bounded .roles)
 
   pub kb-part-restricted : (i : ℕ) → PartRole (λ u. roleOn u 0 ≡ false) (partAt (partsOf k) i)
-  kb-part-restricted = parts-roles (k .names) (λ u. roleOn u 0 ≡ false) (k .axioms) (kb-bounded .names) kb-restricted
+  kb-part-restricted = parts-roles shared (k .names) (λ u. roleOn u 0 ≡ false) (k .axioms) (kb-bounded .names) kb-restricted
 
 -- Faults of records are at most 8.
 most : {x y n : ℕ} (b : Bool) → x ≤ n → y ≤ n → cond b x y ≤ n

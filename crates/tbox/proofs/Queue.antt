@@ -14,7 +14,7 @@ use native.Mathlib.Decide.{decLt}
 use borrow.Author.Tests.{lt-ltb, le-ltb}
 use Rattle.tbox.specs.Concepts.{Node, noNode, Axiom, axiomOf, axiomsOf}
 use Rattle.tbox.specs.Normal.{Tag, Nf, topN, bottomN, nameN, notN, andN, orN, existsN, forallN}
-use Rattle.tbox.specs.Flatten.{Filler, Part, nameP, existsP, forallP, Flat, atom, Pending, whole, guarded, Walked, meetOne, walk, walkPending, Flattening, run, restrictions, weight, weights, nameParts, pendings, flatten, noPart, partAt}
+use Rattle.tbox.specs.Flatten.{Atom, Filler, atomic, Part, nameP, existsP, forallP, Flat, atom, Pending, whole, guarded, Walked, Lookup, shared, placed, meetOne, walkBy, walk, walkPendingBy, walkPending, Flattening, runBy, restrictions, weight, weights, nameParts, pendings, flattenBy, flatten, noPart, partAt}
 use Rattle.tbox.specs.Order.{through, flatsThrough, turnOf, turnsFrom, axiomTurn}
 
 -- a walk puts fewer on the queue than it has restrictions
@@ -23,93 +23,108 @@ unfolding weights
 weights-append [] q = omega arith
 weights-append (a ∷ p) q = omega (arith, weights-append p q)
 
-meet-weights : (p : Filler → Part) (g : Tag) (c : Nf) (so : List Part) (o : Option Filler) → weights (meetOne p g c so o .later) ≤ suc (restrictions c)
-unfolding weights weight meetOne
-meet-weights p g c so (some a) = omega arith
-meet-weights p g c so none = omega arith
+placed-weights : (p : Part) (so : List Part) (o : Option ℕ) → weights (placed p so o .later) ≤ 0
+unfolding weights placed
+placed-weights p so (some j) = omega arith
+placed-weights p so none = omega arith
 
-walk-weights : (c : Nf) (so : List Part) → weights (walk c so .later) ≤ restrictions c
-unfolding walk weights restrictions
-walk-weights topN so = omega arith
-walk-weights bottomN so = omega arith
-walk-weights (nameN t) so = omega arith
-walk-weights (notN t) so = omega arith
-walk-weights (andN c d) so = omega (arith, weights-append (walk c so .later) (walk d (so ++ walk c so .parts) .later), walk-weights c so, walk-weights d (so ++ walk c so .parts))
-walk-weights (orN c d) so = omega (arith, weights-append (walk c so .later) (walk d (so ++ walk c so .parts) .later), walk-weights c so, walk-weights d (so ++ walk c so .parts))
-walk-weights (existsN g u c) so = meet-weights (existsP g u) g c so (atom c)
-walk-weights (forallN g u c) so = meet-weights (forallP g u) g c so (atom c)
+-- whichever lookup
+module _ (find : Lookup) where
+  meet-weights : (p : Filler → Part) (g : Tag) (c : Nf) (so : List Part) (o : Option Atom) →
+      weights (meetOne find p g c so o .later) ≤ suc (restrictions c)
+  unfolding weights weight meetOne
+  meet-weights p g c so (some a) = omega (arith, placed-weights (p (atomic a)) so (find (p (atomic a)) so))
+  meet-weights p g c so none = omega arith
 
-pub pending-weights : (p : Pending) (so : List Part) → weights (walkPending p so .later) < weight p
-unfolding walkPending weight
-pending-weights (whole c) so = omega (arith, walk-weights c so)
-pending-weights (guarded f c) so = omega (arith, walk-weights c so)
+  walk-weights : (c : Nf) (so : List Part) → weights (walkBy find c so .later) ≤ restrictions c
+  unfolding walkBy weights restrictions
+  walk-weights topN so = omega arith
+  walk-weights bottomN so = omega arith
+  walk-weights (nameN t) so = omega arith
+  walk-weights (notN t) so = omega arith
+  walk-weights (andN c d) so =
+      let so′ : List Part = so ++ walkBy find c so .parts in
+      omega (arith, weights-append (walkBy find c so .later) (walkBy find d so′ .later), walk-weights c so, walk-weights d so′)
+  walk-weights (orN c d) so =
+      let so′ : List Part = so ++ walkBy find c so .parts in
+      omega (arith, weights-append (walkBy find c so .later) (walkBy find d so′ .later), walk-weights c so, walk-weights d so′)
+  walk-weights (existsN g u c) so = meet-weights (existsP g u) g c so (atom c)
+  walk-weights (forallN g u c) so = meet-weights (forallP g u) g c so (atom c)
 
-step-weights : (p : Pending) (q : List Pending) (so : List Part) (f : ℕ) → weights (p ∷ q) ≤ suc f → weights (q ++ walkPending p so .later) ≤ f
-unfolding weights
-step-weights p q so f h = omega (arith, weights-append q (walkPending p so .later), pending-weights p so)
+  pub pending-weights : (p : Pending) (so : List Part) → weights (walkPendingBy find p so .later) < weight p
+  unfolding walkPendingBy weight
+  pending-weights (whole c) so = omega (arith, walk-weights c so)
+  pending-weights (guarded f c) so = omega (arith, walk-weights c so)
 
-never-out : (p : Pending) (q : List Pending) → weights (p ∷ q) ≤ 0 → ⊥
-unfolding weights
-never-out p q h = omega (arith, pending-weights p [])
+  step-weights : (p : Pending) (q : List Pending) (so : List Part) (f : ℕ) → weights (p ∷ q) ≤ suc f →
+      weights (q ++ walkPendingBy find p so .later) ≤ f
+  unfolding weights
+  step-weights p q so f h = omega (arith, weights-append q (walkPendingBy find p so .later), pending-weights p so)
 
--- the bound in `run` never cuts the queue short: any that is enough gives the same
-pub run-enough : (f g : ℕ) (q : List Pending) (so : List Part) → weights q ≤ f → weights q ≤ g → run f q so ≡ run g q so
-unfolding run
-run-enough zero zero q so h k = refl
-run-enough zero (suc g) [] so h k = refl
-run-enough zero (suc g) (p ∷ q) so h k = absurd (never-out p q h)
-run-enough (suc f) zero [] so h k = refl
-run-enough (suc f) zero (p ∷ q) so h k = absurd (never-out p q k)
-run-enough (suc f) (suc g) [] so h k = refl
-run-enough (suc f) (suc g) (p ∷ q) so h k =
-    let w : Walked = walkPending p so in
-    ap (λ (r : Flattening). record { axioms = w .flat ∷ r .axioms; parts = w .parts ++ r .parts })
-    (run-enough f g (q ++ w .later) (so ++ w .parts) (step-weights p q so f h) (step-weights p q so g k))
+  never-out : (p : Pending) (q : List Pending) → weights (p ∷ q) ≤ 0 → ⊥
+  unfolding weights
+  never-out p q h = omega (arith, pending-weights p [])
+
+  -- the bound in `runBy` never cuts the queue short: any that is enough gives the same
+  pub run-enough : (f g : ℕ) (q : List Pending) (so : List Part) → weights q ≤ f → weights q ≤ g → runBy find f q so ≡ runBy find g q so
+  unfolding runBy
+  run-enough zero zero q so h k = refl
+  run-enough zero (suc g) [] so h k = refl
+  run-enough zero (suc g) (p ∷ q) so h k = absurd (never-out p q h)
+  run-enough (suc f) zero [] so h k = refl
+  run-enough (suc f) zero (p ∷ q) so h k = absurd (never-out p q k)
+  run-enough (suc f) (suc g) [] so h k = refl
+  run-enough (suc f) (suc g) (p ∷ q) so h k =
+      let w : Walked = walkPendingBy find p so in
+      ap (λ (r : Flattening). record { axioms = w .flat ∷ r .axioms; parts = w .parts ++ r .parts })
+      (run-enough f g (q ++ w .later) (so ++ w .parts) (step-weights p q so f h) (step-weights p q so g k))
 
 -- the queue of F's flattening, with `done` and `so` behind it and q still on it
-pub record Left (F : Flattening) (done : List Flat) (q : List Pending) (so : List Part) : Type 0 where
+pub record Left (find : Lookup) (F : Flattening) (done : List Flat) (q : List Pending) (so : List Part) : Type 0 where
   pub fuel : ℕ
   pub enough : weights q ≤ fuel
-  pub parts : F .parts ≡ so ++ run fuel q so .parts
-  pub axioms : F .axioms ≡ done ++ run fuel q so .axioms
+  pub parts : F .parts ≡ so ++ runBy find fuel q so .parts
+  pub axioms : F .axioms ≡ done ++ runBy find fuel q so .axioms
 
-pub left-start : (T : ℕ) (s : List Axiom) → Left (flatten T s) [] (pendings s) (nameParts T)
-unfolding flatten
-left-start T s = record { fuel = weights (pendings s); enough = omega arith; parts = refl; axioms = refl }
+pub left-start : (find : Lookup) (T : ℕ) (s : List Axiom) → Left find (flattenBy find T s) [] (pendings s) (nameParts T)
+unfolding flattenBy
+left-start find T s = record { fuel = weights (pendings s); enough = omega arith; parts = refl; axioms = refl }
 
-step-from : {F : Flattening} (done : List Flat) (p : Pending) (q : List Pending) (so : List Part) (f : ℕ) → weights (p ∷ q) ≤ f →
-    F .parts ≡ so ++ run f (p ∷ q) so .parts → F .axioms ≡ done ++ run f (p ∷ q) so .axioms →
-    Left F (done ++ (walkPending p so .flat ∷ [])) (q ++ walkPending p so .later) (so ++ walkPending p so .parts)
-unfolding run
-step-from done p q so zero e hp ha = absurd (never-out p q e)
-step-from done p q so (suc f) e hp ha =
-    let r : Flattening = run f (q ++ walkPending p so .later) (so ++ walkPending p so .parts) in
+step-from : (find : Lookup) {F : Flattening} (done : List Flat) (p : Pending) (q : List Pending) (so : List Part) (f : ℕ) → weights (p ∷ q) ≤ f →
+    F .parts ≡ so ++ runBy find f (p ∷ q) so .parts → F .axioms ≡ done ++ runBy find f (p ∷ q) so .axioms →
+    let w : Walked = walkPendingBy find p so in Left find F (done ++ (w .flat ∷ [])) (q ++ w .later) (so ++ w .parts)
+unfolding runBy
+step-from find done p q so zero e hp ha = absurd (never-out find p q e)
+step-from find done p q so (suc f) e hp ha =
+    let w : Walked = walkPendingBy find p so in
+    let r : Flattening = runBy find f (q ++ w .later) (so ++ w .parts) in
     record {
       fuel = f;
-      enough = step-weights p q so f e;
-      parts = hp ∙ sym (append-assoc so (walkPending p so .parts) (r .parts));
-      axioms = ha ∙ sym (append-assoc done (walkPending p so .flat ∷ []) (r .axioms));
+      enough = step-weights find p q so f e;
+      parts = hp ∙ sym (append-assoc so (w .parts) (r .parts));
+      axioms = ha ∙ sym (append-assoc done (w .flat ∷ []) (r .axioms));
     }
 
-pub left-step : {F : Flattening} {done : List Flat} {p : Pending} {q : List Pending} {so : List Part} →
-    Left F done (p ∷ q) so → Left F (done ++ (walkPending p so .flat ∷ [])) (q ++ walkPending p so .later) (so ++ walkPending p so .parts)
-left-step {F} {done} {p} {q} {so} l = step-from done p q so (l .fuel) (l .enough) (l .parts) (l .axioms)
+pub left-step : {find : Lookup} {F : Flattening} {done : List Flat} {p : Pending} {q : List Pending} {so : List Part} → Left find F done (p ∷ q) so →
+    let w : Walked = walkPendingBy find p so in Left find F (done ++ (w .flat ∷ [])) (q ++ w .later) (so ++ w .parts)
+left-step {find} {F} {done} {p} {q} {so} l = step-from find done p q so (l .fuel) (l .enough) (l .parts) (l .axioms)
 
-run-none : (f : ℕ) (so : List Part) → (run f [] so .parts ≡ []) × (run f [] so .axioms ≡ [])
-unfolding run
-run-none zero so = (refl, refl)
-run-none (suc f) so = (refl, refl)
+run-none : (find : Lookup) (f : ℕ) (so : List Part) → (runBy find f [] so .parts ≡ []) × (runBy find f [] so .axioms ≡ [])
+unfolding runBy
+run-none find zero so = (refl, refl)
+run-none find (suc f) so = (refl, refl)
 
-pub left-end : {F : Flattening} {done : List Flat} {so : List Part} → Left F done [] so → (F .parts ≡ so) × (F .axioms ≡ done)
-left-end {F} {done} {so} l =
-    let n = run-none (l .fuel) so in
+pub left-end : {find : Lookup} {F : Flattening} {done : List Flat} {so : List Part} → Left find F done [] so → (F .parts ≡ so) × (F .axioms ≡ done)
+left-end {find} {F} {done} {so} l =
+    let n = run-none find (l .fuel) so in
     (l .parts ∙ rw (n .0, append-nil), l .axioms ∙ rw (n .1, append-nil))
 
 -- the parts so far are the first of all
-pub left-grows : {F : Flattening} {done : List Flat} {q : List Pending} {so : List Part} → Left F done q so → length so ≤ length (F .parts)
-left-grows {q = q} {so} l = omega (arith, ap length (l .parts), length-append so (run (l .fuel) q so .parts))
+pub left-grows : {find : Lookup} {F : Flattening} {done : List Flat} {q : List Pending} {so : List Part} → Left find F done q so →
+    length so ≤ length (F .parts)
+left-grows {find} {q = q} {so} l = omega (arith, ap length (l .parts), length-append so (runBy find (l .fuel) q so .parts))
 
-pub left-part : {F : Flattening} {done : List Flat} {q : List Pending} {so : List Part} → Left F done q so →
+pub left-part : {find : Lookup} {F : Flattening} {done : List Flat} {q : List Pending} {so : List Part} → Left find F done q so →
     (k : ℕ) → k < length so → partAt (F .parts) k ≡ partAt so k
 left-part {so = so} l k h = rw (l .parts) (List·getD-append so _ _ k h)
 
@@ -130,14 +145,20 @@ unfolding nameParts turnsFrom turnOf
 turns-names k zero = refl
 turns-names k (suc T) = turns-append k (nameParts T) (nameP T ∷ []) ∙ rw (turns-names k T)
 
-meet-later : (p : Filler → Part) → ((k : ℕ) (a : Filler) → turnOf k (p a) ≡ []) → (g : Tag) (c : Nf) (so : List Part) (o : Option Filler) →
-    meetOne p g c so o .later ≡ turnsFrom (length so) (meetOne p g c so o .parts)
+placed-later : (p : Part) → ((k : ℕ) → turnOf k p ≡ []) → (so : List Part) (o : Option ℕ) →
+    placed p so o .later ≡ turnsFrom (length so) (placed p so o .parts)
+unfolding placed turnsFrom
+placed-later p quiet so (some j) = refl
+placed-later p quiet so none = rw (quiet (length so))
+
+meet-later : (p : Filler → Part) → ((k : ℕ) (a : Filler) → turnOf k (p a) ≡ []) → (g : Tag) (c : Nf) (so : List Part) (o : Option Atom) →
+    meetOne shared p g c so o .later ≡ turnsFrom (length so) (meetOne shared p g c so o .parts)
 unfolding meetOne turnsFrom turnOf
-meet-later p quiet g c so (some a) = rw (quiet (length so) a)
+meet-later p quiet g c so (some a) = placed-later (p (atomic a)) (λ k. quiet k (atomic a)) so (shared (p (atomic a)) so)
 meet-later p quiet g c so none = rw (quiet (length so) _)
 
 pub walk-later : (c : Nf) (so : List Part) → walk c so .later ≡ turnsFrom (length so) (walk c so .parts)
-unfolding walk turnsFrom turnOf
+unfolding walkBy turnsFrom turnOf
 walk-later topN so = refl
 walk-later bottomN so = refl
 walk-later (nameN t) so = refl
@@ -152,7 +173,7 @@ walk-later (existsN g u c) so = meet-later (existsP g u) (λ k a. refl) g c so (
 walk-later (forallN g u c) so = meet-later (forallP g u) (λ k a. refl) g c so (atom c)
 
 pub pending-later : (p : Pending) (so : List Part) → walkPending p so .later ≡ turnsFrom (length so) (walkPending p so .parts)
-unfolding walkPending
+unfolding walkPendingBy
 pending-later (whole c) so = walk-later c so
 pending-later (guarded f c) so = walk-later c so
 
@@ -167,33 +188,33 @@ unfolding through flatsThrough
 flats-append [] q so = rw append-nil
 flats-append (a ∷ p) q so = rw (flats-append p q, append-assoc)
 
-pub left-through : {F : Flattening} {done : List Flat} (ps q : List Pending) {so : List Part} → Left F done (ps ++ q) so →
-    Left F (done ++ flatsThrough ps so) (q ++ turnsFrom (length so) (through ps so)) (so ++ through ps so)
+pub left-through : {F : Flattening} {done : List Flat} (ps q : List Pending) {so : List Part} → Left shared F done (ps ++ q) so →
+    Left shared F (done ++ flatsThrough ps so) (q ++ turnsFrom (length so) (through ps so)) (so ++ through ps so)
 unfolding through flatsThrough turnsFrom
 left-through [] q l = rw (append-nil, append-nil, append-nil) l
 left-through {F} {done} (p ∷ ps) q {so} l =
     let w : Walked = walkPending p so in
     let so′ : List Part = so ++ w .parts in
-    let n : Left F (done ++ (w .flat ∷ [])) (ps ++ (q ++ w .later)) so′ = rw (← append-assoc ps q (w .later)) (left-step l) in
+    let n : Left shared F (done ++ (w .flat ∷ [])) (ps ++ (q ++ w .later)) so′ = rw (← append-assoc ps q (w .later)) (left-step l) in
     let m = left-through ps (q ++ w .later) n in
     rw (turns-append (length so) (w .parts) (through ps so′), ← pending-later p so, ← length-append so (w .parts), ← append-assoc q, ← append-assoc done (w .flat ∷ []) (flatsThrough ps so′), ← append-assoc so (w .parts) (through ps so′)) m
 
 -- names put nothing on the queue
 pub left-axioms : (T : ℕ) (s : List Axiom) → let so : List Part = nameParts T ++ through (pendings s) (nameParts T) in
-    Left (flatten T s) (flatsThrough (pendings s) (nameParts T)) (turnsFrom 0 so) so
+    Left shared (flatten T s) (flatsThrough (pendings s) (nameParts T)) (turnsFrom 0 so) so
 left-axioms T s =
     rw (turns-append 0 (nameParts T) (through (pendings s) (nameParts T)), turns-names 0 T, zero-add)
-    (left-through {done = []} (pendings s) [] {so = nameParts T} (rw append-nil (left-start T s)))
+    (left-through {done = []} (pendings s) [] {so = nameParts T} (rw append-nil (left-start shared T s)))
 
 -- the turn of part j
-pub left-turn : {F : Flattening} {done : List Flat} {so : List Part} (j : ℕ) → j < length so → Left F done (turnsFrom j (drop j so)) so →
+pub left-turn : {F : Flattening} {done : List Flat} {so : List Part} (j : ℕ) → j < length so → Left shared F done (turnsFrom j (drop j so)) so →
     let so′ : List Part = so ++ through (turnOf j (partAt so j)) so in
-    Left F (done ++ flatsThrough (turnOf j (partAt so j)) so) (turnsFrom (suc j) (drop (suc j) so′)) so′
+    Left shared F (done ++ flatsThrough (turnOf j (partAt so j)) so) (turnsFrom (suc j) (drop (suc j) so′)) so′
 unfolding turnsFrom
 left-turn {F} {done} {so} j h l =
     let p : Part = partAt so j in
     let more : List Part = through (turnOf j p) so in
-    let l′ : Left F done (turnOf j p ++ turnsFrom (suc j) (drop (suc j) so)) so = rw (drop-cons so j noPart h) at l in
+    let l′ : Left shared F done (turnOf j p ++ turnsFrom (suc j) (drop (suc j) so)) so = rw (drop-cons so j noPart h) at l in
     let e : suc j + length (drop (suc j) so) ≡ length so = omega (arith, length-drop (suc j) so) in
     rw (drop-append-le (suc j) so more h, turns-append (suc j) (drop (suc j) so) more, e) (left-through (turnOf j p) (turnsFrom (suc j) (drop (suc j) so)) l′)
 
@@ -202,11 +223,11 @@ turns-beyond : (j : ℕ) (so : List Part) → length so ≤ j → turnsFrom j (d
 unfolding turnsFrom
 turns-beyond j so h = rw (drop-of-length-le so h)
 
-pub left-done : {F : Flattening} {done : List Flat} {so : List Part} (j : ℕ) → Left F done (turnsFrom j (drop j so)) so → length so ≤ j →
+pub left-done : {F : Flattening} {done : List Flat} {so : List Part} (j : ℕ) → Left shared F done (turnsFrom j (drop j so)) so → length so ≤ j →
     (F .parts ≡ so) × (F .axioms ≡ done)
 left-done {so = so} j l h = left-end (rw (turns-beyond j so h) at l)
 
-pub left-below : {F : Flattening} {done : List Flat} {so : List Part} (j : ℕ) → Left F done (turnsFrom j (drop j so)) so →
+pub left-below : {F : Flattening} {done : List Flat} {so : List Part} (j : ℕ) → Left shared F done (turnsFrom j (drop j so)) so →
     j < length (F .parts) → j < length so
 left-below {F} {done} {so} j l h = at (decLt j (length so))
   where
@@ -254,7 +275,7 @@ turned zero t = t
 turned (suc j) t = let u : Flattening = turned j t in cond (ltb j (length (u .parts))) (turnAt j u) u
 
 Lefts : Flattening → ℕ → Flattening → Type 0
-Lefts F j t = Left F (t .axioms) (turnsFrom j (drop j (t .parts))) (t .parts)
+Lefts F j t = Left shared F (t .axioms) (turnsFrom j (drop j (t .parts))) (t .parts)
 
 lefts-next : (F : Flattening) (j : ℕ) (t : Flattening) → Lefts F j t → Lefts F (suc j) (cond (ltb j (length (t .parts))) (turnAt j t) t)
 unfolding Lefts turnAt

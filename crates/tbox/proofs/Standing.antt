@@ -10,7 +10,7 @@ use Rattle.tbox.specs.Normal.{Tag, Nf}
 use Rattle.tbox.specs.Flatten.{Filler, Part, nameP, freshP, existsP, forallP}
 use Rattle.tbox.specs.Answers.{oddNo, partBytes}
 use Rattle.tbox.specs.Promise.{kindOf}
-use Rattle.tbox.specs.Tables.{flag, partWord, Restricts, Stands, slotBytes}
+use Rattle.tbox.specs.Tables.{flag, partWord, fillerWord, Restricts, Stands, slotBytes}
 
 -- a flag is a bit, and the bit says it
 pub flag-low : (b : Bool) → flag b < 2
@@ -23,27 +23,32 @@ flag-same true false e = absurd (omega arith)
 flag-same false true e = absurd (omega arith)
 flag-same false false e = refl
 
--- kind, odd and number off a word
-pub word-kind : (x kind odd number : ℕ) → x ≡ partWord kind odd number → kind < 4 → x % 4 ≡ kind
-word-kind x kind odd number e a = omega arith
+-- kind, odd, number and filler off a word
+module _ (x kind odd number filler : ℕ) (e : x ≡ partWord kind odd number filler) (a : kind < 4) where
+  pub word-kind : x % 4 ≡ kind
+  word-kind = omega arith
 
-pub word-odd : (x kind odd number : ℕ) → x ≡ partWord kind odd number → kind < 4 → odd < 2 → x / 4 % 2 ≡ odd
-word-odd x kind odd number e a b = omega arith
+  module _ (b : odd < 2) where
+    pub word-odd : x / 4 % 2 ≡ odd
+    word-odd = omega arith
 
-pub word-number : (x kind odd number : ℕ) → x ≡ partWord kind odd number → kind < 4 → odd < 2 → number < 256 → x / 8 % 256 ≡ number
-word-number x kind odd number e a b c = omega arith
+    pub word-number : number < 256 → x / 8 % 256 ≡ number
+    word-number c = omega arith
 
-word-bytes : (x kind odd number : ℕ) → x ≡ partWord kind odd number → kind < 4 → odd < 2 → number < 256 → slotBytes x ≡ kind ∷ number ∷ odd ∷ []
-unfolding slotBytes
-word-bytes x kind odd number e a b c = rw (word-kind x kind odd number e a, word-number x kind odd number e a b c, word-odd x kind odd number e a b)
+    pub word-filler : number < 256 → x / 2048 ≡ filler
+    word-filler c = omega arith
+
+    word-bytes : number < 256 → slotBytes x ≡ kind ∷ number ∷ odd ∷ []
+    unfolding slotBytes
+    word-bytes c = rw (word-kind, word-number c, word-odd)
 
 module _ (es : List Entry) (k x : ℕ) where
   pub stand-kind : (p : Part) → Stands es k x p → x % 4 ≡ kindOf p
   unfolding kindOf
-  stand-kind (nameP t) h = word-kind x 0 0 t (h .0) (omega arith)
-  stand-kind (freshP g c) h = word-kind x 1 (oddNo g) (g .filler) (h .0) (omega arith)
-  stand-kind (existsP g u f) h = word-kind x 2 (oddNo g) (g .source) (h .0) (omega arith)
-  stand-kind (forallP g u f) h = word-kind x 3 (oddNo g) (g .source) (h .0) (omega arith)
+  stand-kind (nameP t) h = word-kind x 0 0 t 0 (h .0) (omega arith)
+  stand-kind (freshP g c) h = word-kind x 1 (oddNo g) (g .filler) 0 (h .0) (omega arith)
+  stand-kind (existsP g u f) h = word-kind x 2 (oddNo g) (g .source) (fillerWord f) (h .0) (omega arith)
+  stand-kind (forallP g u f) h = word-kind x 3 (oddNo g) (g .source) (fillerWord f) (h .0) (omega arith)
 
   -- a name, fresh or not
   pub stand-name : (P : Part → Type 0) (p : Part) → x % 4 < 2 → Stands es k x p → ((t : ℕ) → P (nameP t)) → ((g : Tag) (c : Nf) → P (freshP g c)) → P p
@@ -55,7 +60,7 @@ module _ (es : List Entry) (k x : ℕ) where
 
   -- a restriction
   pub stand-restriction : (P : Part → Type 0) (p : Part) → 2 ≤ x % 4 → Stands es k x p →
-      ((kind : ℕ) (g : Tag) (u : Role) (d : Filler) → kind < 4 → x ≡ partWord kind (oddNo g) (g .source) → Restricts es k g u d → P (existsP g u d) × P (forallP g u d)) →
+      ((kind : ℕ) (g : Tag) (u : Role) (d : Filler) → kind < 4 → x ≡ partWord kind (oddNo g) (g .source) (fillerWord d) → Restricts es k g u d → P (existsP g u d) × P (forallP g u d)) →
       P p
   unfolding kindOf
   stand-restriction P (nameP t) l h r = absurd (omega (arith, stand-kind (nameP t) h))
@@ -65,7 +70,7 @@ module _ (es : List Entry) (k x : ℕ) where
 
   pub stand-bytes : (p : Part) → Stands es k x p → slotBytes x ≡ partBytes p
   unfolding partBytes
-  stand-bytes (nameP t) h = word-bytes x 0 0 t (h .0) (omega arith) (omega arith) (h .1)
-  stand-bytes (freshP g c) h = word-bytes x 1 (oddNo g) (g .filler) (h .0) (omega arith) (flag-low (g .odd)) (h .1)
-  stand-bytes (existsP g u f) h = word-bytes x 2 (oddNo g) (g .source) (h .0) (omega arith) (flag-low (g .odd)) (h .1 .byte)
-  stand-bytes (forallP g u f) h = word-bytes x 3 (oddNo g) (g .source) (h .0) (omega arith) (flag-low (g .odd)) (h .1 .byte)
+  stand-bytes (nameP t) h = word-bytes x 0 0 t 0 (h .0) (omega arith) (omega arith) (h .1)
+  stand-bytes (freshP g c) h = word-bytes x 1 (oddNo g) (g .filler) 0 (h .0) (omega arith) (flag-low (g .odd)) (h .1)
+  stand-bytes (existsP g u f) h = word-bytes x 2 (oddNo g) (g .source) (fillerWord f) (h .0) (omega arith) (flag-low (g .odd)) (h .1 .byte)
+  stand-bytes (forallP g u f) h = word-bytes x 3 (oddNo g) (g .source) (fillerWord f) (h .0) (omega arith) (flag-low (g .odd)) (h .1 .byte)

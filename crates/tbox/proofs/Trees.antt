@@ -104,6 +104,10 @@ pub concept-low : (es : List Entry) (m n r : ℕ) → r < m → r < n → concep
 unfolding conceptBelow
 concept-low es m n r h k = ap asConcept (getD-take m (nodesOf es) r noNode h ∙ sym (getD-take n (nodesOf es) r noNode k))
 
+pub role-low : (es : List Entry) (m n r : ℕ) → r < m → r < n → roleBelow es m r ≡ roleBelow es n r
+unfolding roleBelow
+role-low es m n r h k = ap asRole (getD-take m (nodesOf es) r noNode h ∙ sym (getD-take n (nodesOf es) r noNode k))
+
 pub concept-all : (es : List Entry) (n r : ℕ) → length es ≤ n → conceptBelow es (length es) r ≡ conceptBelow es n r
 unfolding conceptBelow
 concept-all es n r h = rw (take-all n (nodesOf es) (omega (arith, nodes-length es)), take-all (length es) (nodesOf es) (omega (arith, nodes-length es)))

@@ -12,7 +12,7 @@ use Rattle.tbox.specs.declared.records.Entry.{Entry}
 use Rattle.tbox.specs.Scan.{recordAt}
 use Rattle.tbox.specs.Concepts.{nodesOf, axiomsOf}
 use Rattle.tbox.specs.Normal.{Nf, orN, plain, negated, axiomNf}
-use Rattle.tbox.specs.Flatten.{Part, nameP, freshP, existsP, forallP, Flat, Pending, whole, guarded, walkPending, nameParts, pendings, flatten, partAt}
+use Rattle.tbox.specs.Flatten.{Part, nameP, freshP, existsP, forallP, Flat, Pending, whole, guarded, walkPendingBy, shared, nameParts, pendings, flatten, partAt}
 use Rattle.tbox.specs.Order.{through, turnOf, turnsFrom, axiomTurn}
 use Rattle.tbox.specs.Answers.{oddNo}
 use Rattle.tbox.specs.Promise.{kindOf}
@@ -29,11 +29,11 @@ unfolding nameParts
 names-none limit t es = record { count = omega arith; stand = λ f k i. absurd (omega arith) }
 
 -- a name more
-pub names-next : {limit n i word m : ℕ} {t t′ : List ℕ} → n ≤ limit → limit ≤ 20 → i ≡ n → word ≡ partWord 0 0 i → Pushed limit t n word t′ m →
+pub names-next : {limit n i word m : ℕ} {t t′ : List ℕ} → n ≤ limit → limit ≤ 20 → i ≡ n → word ≡ partWord 0 0 i 0 → Pushed limit t n word t′ m →
     ((es : List Entry) → Held limit es t n (nameParts n)) → (m ≡ n + 1) × ((es : List Entry) → Held limit es t′ m (nameParts m))
 unfolding nameParts
 names-next {limit} {n} {i} {word} {m} {t} {t′} h l q e p f =
-    let more : (es : List Entry) → Held limit es t′ m (nameParts (suc n)) = λ es. held-push (nameP n) (f es) (e ∙ ap (partWord 0 0) q, omega arith) p in
+    let more : (es : List Entry) → Held limit es t′ m (nameParts (suc n)) = λ es. held-push (nameP n) (f es) (e ∙ ap (λ (t : ℕ). partWord 0 0 t 0) q, omega arith) p in
     let g : m ≡ suc n = omega (arith, more [] .count, names-length (suc n)) in
     (omega arith, λ es. rw (ap nameParts g) (more es))
 
@@ -58,8 +58,8 @@ module _ (es : List Entry) (j x : ℕ) where
   unfolding turnOf kindOf
   turn-fresh n odd (nameP t) l s h = absurd (omega (arith, stand-kind es j x (nameP t) s))
   turn-fresh n odd (freshP g c) l s h =
-      let f = word-number x 1 (oddNo g) (g .filler) (s .0) (omega arith) (flag-low (g .odd)) (s .1) in
-      let o : g .odd ≡ odd = flag-same (g .odd) odd (omega (arith, word-odd x 1 (oddNo g) (g .filler) (s .0) (omega arith) (flag-low (g .odd)), flag-low odd)) in
+      let f = word-number x 1 (oddNo g) (g .filler) 0 (s .0) (omega arith) (flag-low (g .odd)) (s .1) in
+      let o : g .odd ≡ odd = flag-same (g .odd) odd (omega (arith, word-odd x 1 (oddNo g) (g .filler) 0 (s .0) (omega arith) (flag-low (g .odd)), flag-low odd)) in
       ap (λ (d : Nf). guarded j d ∷ []) (s .2 ∙ rw (o, f) (nf-same odd es (length es) n (g .filler) (concept-all es n (g .filler) l)))
   turn-fresh n odd (existsP g u f) l s h = absurd (omega (arith, stand-kind es j x (existsP g u f) s))
   turn-fresh n odd (forallP g u f) l s h = absurd (omega (arith, stand-kind es j x (forallP g u f) s))
@@ -85,11 +85,11 @@ module _ (limit : ℕ) (es : List Entry) where
   adds-append p q t n t′ n′ t″ n″ a b so h = rw (through-append p q so, ← append-assoc so) (b (so ++ through p so) (a so h))
 
   pub adds-whole : (c : Nf) (t : List ℕ) (n : ℕ) (t′ : List ℕ) (n′ : ℕ) → Adds limit es c t n t′ n′ → AddsAll limit es (whole c ∷ []) t n t′ n′
-  unfolding through walkPending
+  unfolding through walkPendingBy
   adds-whole c t n t′ n′ w so h = rw append-nil (w so h)
 
   pub adds-guarded : (j : ℕ) (c : Nf) (t : List ℕ) (n : ℕ) (t′ : List ℕ) (n′ : ℕ) → Adds limit es c t n t′ n′ → AddsAll limit es (guarded j c ∷ []) t n t′ n′
-  unfolding through walkPending
+  unfolding through walkPendingBy
   adds-guarded j c t n t′ n′ w so h = rw append-nil (w so h)
 
 -- the loop over the parts: those of the table, and the queue from part j on
@@ -97,7 +97,7 @@ pub record Turning (limit : ℕ) (es : List Entry) (names : ℕ) (table : List �
   pub so : List Part
   pub done : List Flat
   pub held : Held limit es table n so
-  pub left : Left (flatten names (axiomsOf (nodesOf es))) done (turnsFrom j (drop j so)) so
+  pub left : Left shared (flatten names (axiomsOf (nodesOf es))) done (turnsFrom j (drop j so)) so
 
 module _ (limit : ℕ) (es : List Entry) (names : ℕ) where
   pub turning-start : (t : List ℕ) (n : ℕ) (t′ : List ℕ) (n′ : ℕ) → Held limit es t n (nameParts names) →

@@ -1,15 +1,16 @@
 -- The worked sheets are as the table has them.
 use mathlib.Core.Path.{_≡_, refl}
+use native.Mathlib.Decide.{ℕ-discrete}
 use mathlib.Core.List.{map}
 use Rattle.tbox.specs.Shapes.{shapeOf, isLeaf, isRestriction}
 use Rattle.tbox.specs.Scan.{scanSheet, scan, recordFault, recordAfter, after, namesAfter, rolesAfter, bodyFault, numberFault, referenceFault, emptyFault, vacuousOf, name}
 use Rattle.tbox.specs.Concepts.{nodesOf, nodesFrom, nodeOf, axiomsOf, axiomOf}
 use Rattle.tbox.specs.Normal.{plain, negated, axiomNf}
-use Rattle.tbox.specs.Flatten.{flatten, run, walkPending, walk, meetOne, atom, restrictions, weight, weights, nameParts, pendings}
+use Rattle.tbox.specs.Flatten.{flattenBy, runBy, walkPendingBy, walkBy, meetOne, placed, shared, findFrom, alike, likeExists, likeForall, sameRole, sameFiller, sameAtom, yesNo, atom, restrictions, weight, weights, nameParts, pendings}
 use Rattle.tbox.specs.Reading.{readKb, reading, admit}
 use Rattle.tbox.specs.Answers.{readSays, listSays, listLeaves, bytesOf, partBytes}
 use Rattle.tbox.specs.Examples.{answered, table}
 
 pub rows-right : map answered table ≡ table
-unfolding readSays listSays listLeaves bytesOf partBytes readKb reading admit flatten run walkPending walk meetOne atom restrictions weight weights nameParts pendings plain negated axiomNf nodesOf nodesFrom nodeOf axiomsOf axiomOf scanSheet scan recordFault recordAfter after namesAfter rolesAfter bodyFault numberFault referenceFault emptyFault vacuousOf name shapeOf isLeaf isRestriction
+unfolding readSays listSays listLeaves bytesOf partBytes readKb reading admit flattenBy runBy walkPendingBy walkBy meetOne placed shared findFrom alike likeExists likeForall sameRole sameFiller sameAtom yesNo ℕ-discrete atom restrictions weight weights nameParts pendings plain negated axiomNf nodesOf nodesFrom nodeOf axiomsOf axiomOf scanSheet scan recordFault recordAfter after namesAfter rolesAfter bodyFault numberFault referenceFault emptyFault vacuousOf name shapeOf isLeaf isRestriction
 rows-right = refl

@@ -2,7 +2,7 @@
 use Prim.Native.Nat.{ℕ, _<_}
 use mathlib.Core.List.{List, [], _∷_}
 use Rattle.tbox.specs.Concepts.{Role, named, inverse, notR, andR, orR, Concept, topC, bottomC, nameC, notC, andC, orC, existsC, forallC, Axiom}
-use Rattle.tbox.specs.Flatten.{Filler, everything, nothing, part, Part, nameP, freshP, existsP, forallP}
+use Rattle.tbox.specs.Flatten.{everything, nothing, nameA, Filler, atomic, fresh, Part, nameP, freshP, existsP, forallP}
 
 -- each of a list
 abbrev pub All {ℓ κ} : {A : Type ℓ} → (A → Type κ) → List A → Type κ
@@ -69,9 +69,10 @@ PartFiller P (forallP g u f) = P f
 
 -- a filler that is a part has its number below c
 abbrev pub FillerLow : ℕ → Filler → Type 0
-FillerLow c everything = Unit
-FillerLow c nothing = Unit
-FillerLow c (part j) = j < c
+FillerLow c (atomic everything) = Unit
+FillerLow c (atomic nothing) = Unit
+FillerLow c (atomic (nameA t)) = t < c
+FillerLow c (fresh j) = j < c
 
 abbrev pub PartLow : ℕ → Part → Type 0
 PartLow c p = PartFiller (FillerLow c) p
@@ -85,9 +86,10 @@ Plain (forallP g u f) = ⊥
 
 -- a filler that is a part is plain, where part j is m j
 abbrev pub FillerPlain : (ℕ → Part) → Filler → Type 0
-FillerPlain m everything = Unit
-FillerPlain m nothing = Unit
-FillerPlain m (part j) = Plain (m j)
+FillerPlain m (atomic everything) = Unit
+FillerPlain m (atomic nothing) = Unit
+FillerPlain m (atomic (nameA t)) = Plain (m t)
+FillerPlain m (fresh j) = Plain (m j)
 
 abbrev pub PartPlain : (ℕ → Part) → Part → Type 0
 PartPlain m p = PartFiller (FillerPlain m) p

@@ -8,9 +8,9 @@ use lib.ListN.{length, getD}
 use Rattle.bitset.specs.Bits.{wordAt}
 use Rattle.tbox.specs.declared.base.Base.{Base}
 use Rattle.tbox.specs.declared.base.Loaded.{Loaded}
-use Rattle.tbox.specs.Flatten.{Filler, everything, nothing, part, Part, nameP, freshP, existsP, forallP, partAt}
+use Rattle.tbox.specs.Flatten.{everything, nothing, nameA, Filler, atomic, fresh, Part, nameP, freshP, existsP, forallP, partAt}
 use Rattle.tbox.specs.Truth.{kbOn, roleOn}
-use Rattle.tbox.specs.Reading.{Kb, Reading, refusal, kb, flatsOf, partsOf, readKb}
+use Rattle.tbox.specs.Reading.{Kb, refusal, kb, flatsOf, partsOf, readKb}
 use Rattle.tbox.specs.Answers.{limit}
 
 -- a part's kind: 0 name, 1 fresh, 2 existential, 3 universal
@@ -22,9 +22,10 @@ kindOf (forallP g u f) = 3
 
 -- a filler: a part's number, 254 everything, 255 nothing
 unfoldable pub fillerNo : Filler → ℕ
-fillerNo (part k) = k
-fillerNo everything = 254
-fillerNo nothing = 255
+fillerNo (atomic (nameA t)) = t
+fillerNo (atomic everything) = 254
+fillerNo (atomic nothing) = 255
+fillerNo (fresh j) = j
 
 -- a restriction's filler; 0 for a name
 unfoldable pub fillerOf : Part → ℕ

@@ -1,15 +1,16 @@
 // The flattened knowledge base as plain data: what the layers above rely on.
 ghost use mathlib.Core.Path.{_≡_};
+ghost use mathlib.Core.List.{List};
 ghost use Prim.Native.Nat.{ℕ, _+_, _*_, _%_, _^_, _<_, _≤_};
 ghost use lib.ListN.{length, getD};
 ghost use Rattle.bitset.specs.Bits.{wordAt};
+ghost use Rattle.tbox.specs.declared.records.Entry.{Entry};
 ghost use Rattle.tbox.specs.Concepts.{nodesOf, axiomsOf};
 ghost use Rattle.tbox.specs.Flatten.{Part, flatten};
 ghost use Rattle.tbox.specs.Truth.{kbOn};
 ghost use Rattle.tbox.specs.Promise.{fillerOf, roleHolds, Loads};
 ghost use Rattle.tbox.specs.Tables.{seen, Stands, Stood, fillerCode};
-use crate::parts::negated_atom;
-use crate::parts::plain_atom;
+use crate::places::places;
 use crate::records::record_at;
 use crate::truth::kb_word;
 use crate::truth::role_word;
@@ -34,7 +35,7 @@ pub struct Loaded {
     pub base: Base,
 }
 
-fn kinds(parts: &[u16; 20]) -> [u8; 20]
+fn kinds(parts: &[u32; 20]) -> [u8; 20]
     ensures { λ r. ⌜ ((i : ℕ) → i < 20 → getD r i 0 ≡ getD (now (parts .entry)) i 0 % 4) ⌝ }
 {
     let mut kind = [0u8; 20];
@@ -45,21 +46,14 @@ fn kinds(parts: &[u16; 20]) -> [u8; 20]
 }
 
 // The filler of part i, with the given word; 0 for a name.
-fn filler_at(table: &[u32; 255], count: usize, i: usize, word: u16) -> u8
-    requires { ⌜ (count ≤ 255) × (i < 20) ⌝ }
-    ensures { λ r. ⌜ ((p : Part) → Stands (seen (now (table .entry)) count) i word p → r ≡ fillerOf p) ⌝ }
+fn filler_at(i: usize, word: u32) -> u8
+    requires { ⌜ i < 20 ⌝ }
+    ensures { λ r. ⌜ ((es : List Entry) (p : Part) → Stands es i word p → r ≡ fillerOf p) ⌝ }
 {
     if word % 4 < 2 {
         return 0;
     }
-    let r = (word / 8 % 256) as u8;
-    let e = record_at(table, count, r);
-    if word / 4 % 2 == 0 {
-        let f = plain_atom(table, count, e.second, r as usize);
-        return filler_no(f, i);
-    }
-    let f = negated_atom(table, count, e.second, r as usize);
-    filler_no(f, i)
+    filler_no((word / 2048) as usize, i)
 }
 
 // A filler's number: 256 everything, 257 nothing, 258 the next part, else a name's.
@@ -75,19 +69,18 @@ fn filler_no(f: usize, i: usize) -> u8
     }
 }
 
-fn fillers(table: &[u32; 255], count: usize, parts: &[u16; 20]) -> [u8; 20]
-    requires { ⌜ count ≤ 255 ⌝ }
-    ensures { λ r. ⌜ ((i : ℕ) (p : Part) → i < 20 → Stands (seen (now (table .entry)) count) i (getD (now (parts .entry)) i 0) p → getD r i 0 ≡ fillerOf p) ⌝ }
+fn fillers(parts: &[u32; 20]) -> [u8; 20]
+    ensures { λ r. ⌜ ((es : List Entry) (i : ℕ) (p : Part) → i < 20 → Stands es i (getD (now (parts .entry)) i 0) p → getD r i 0 ≡ fillerOf p) ⌝ }
 {
     let mut filler = [0u8; 20];
     for i in 0..20 {
-        filler[i] = filler_at(table, count, i, parts[i]);
+        filler[i] = filler_at(i, parts[i]);
     }
     filler
 }
 
 // Word w of the role sets on which the role of a part, with the given word, holds.
-fn role_at(table: &[u32; 255], count: usize, word: u16, w: u64) -> u64
+fn role_at(table: &[u32; 255], count: usize, word: u32, w: u64) -> u64
     requires { ⌜ count ≤ 255 ⌝ }
     ensures { λ r. ⌜ ((i : ℕ) (p : Part) → Stands (seen (now (table .entry)) count) i word p → r ≡ wordAt (roleHolds p) w) ⌝ }
 {
@@ -99,7 +92,7 @@ fn role_at(table: &[u32; 255], count: usize, word: u16, w: u64) -> u64
     role_word(table, count, e.first, r as usize, w)
 }
 
-fn role_words(table: &[u32; 255], count: usize, parts: &[u16; 20], c: usize) -> [u64; 80]
+fn role_words(table: &[u32; 255], count: usize, parts: &[u32; 20], c: usize) -> [u64; 80]
     requires { ⌜ (count ≤ 255) × (c ≤ 20) ⌝ }
     ensures { λ r. ⌜ ((i w : ℕ) (p : Part) → i < c → w < 4 → Stands (seen (now (table .entry)) count) i (getD (now (parts .entry)) i 0) p → getD r (4 * i + w) 0 ≡ wordAt (roleHolds p) w) ⌝ }
 {
@@ -129,17 +122,19 @@ fn good_words(
     table: &[u32; 255],
     count: usize,
     names: usize,
-    parts: &[u16; 20],
+    parts: &[u32; 20],
     c: usize,
 ) -> [u64; 64]
     requires { ⌜ (count ≤ 255) × (c ≤ 12) × (c ≡ length (flatten names (axiomsOf (nodesOf (seen (now table) count))) .parts)) × Stood (seen (now table) count) (now parts) (flatten names (axiomsOf (nodesOf (seen (now table) count))) .parts) ⌝ }
     ensures { λ r. ⌜ ((w : ℕ) → 64 * w < 2 ^ c → getD r w 0 ≡ wordAt (kbOn (flatten names (axiomsOf (nodesOf (seen (now (table .entry)) count))) .axioms)) w) ⌝ }
 {
+    let mut place = [0u8; 512];
+    places(table, count, parts, c, &mut place);
     let n = words_for(c);
     let mut good = [0u64; 64];
     let mut w: usize = 0;
     while w < n {
-        good[w] = kb_word(table, count, names, parts, c, w as u64);
+        good[w] = kb_word(table, count, names, parts, &place, c, w as u64);
         w = w + 1;
     }
     good
@@ -162,7 +157,7 @@ pub fn load(sheet: &[u8]) -> Loaded
     ensures { λ r. ⌜ Loads (now (sheet .entry)) r ⌝ }
 {
     let mut table = [0u32; 255];
-    let mut parts = [0u16; 20];
+    let mut parts = [0u32; 20];
     let a = crate::admit(sheet, &mut table, &mut parts, crate::LIMIT);
     if a.fault != 0 {
         return Loaded {
@@ -176,7 +171,7 @@ pub fn load(sheet: &[u8]) -> Loaded
         roles: a.roles,
         parts: a.parts,
         kind: kinds(&parts),
-        filler: fillers(&table, a.count, &parts),
+        filler: fillers(&parts),
         role: role_words(&table, a.count, &parts, a.parts),
         good: good_words(&table, a.count, a.names, &parts, a.parts),
     };

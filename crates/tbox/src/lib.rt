@@ -9,7 +9,9 @@ ghost use Rattle.tbox.specs.Tables.{foundIn, Admits, slotBytes, slotsOf}
 
 pub mod base;
 pub mod parts;
+pub mod places;
 pub mod records;
+pub mod sharing;
 pub mod truth;
 
 // Parts and roles together are at most this many: document 01's limit on c + L.
@@ -42,7 +44,7 @@ fn found(fault: u8, place: usize, p: records::Progress, parts: usize) -> Admitte
 pub(crate) fn admit(
     sheet: &[u8],
     table: &mut [u32; 255],
-    parts: &mut [u16; 20],
+    parts: &mut [u32; 20],
     limit: usize,
 ) -> Admitted
     requires { ⌜ limit ≤ 20 ⌝ }
@@ -74,7 +76,7 @@ pub fn read(sheet: &[u8]) -> ReadAnswer
     ensures { λ r. ⌜ readNumbers r ≡ readSays (readKb limit (now (sheet .entry))) ⌝ }
 {
     let mut table = [0u32; 255];
-    let mut parts = [0u16; 20];
+    let mut parts = [0u32; 20];
     let a = admit(sheet, &mut table, &mut parts, LIMIT);
     if a.fault != 0 {
         return ReadAnswer::Refused(a.fault, a.place);
@@ -94,7 +96,7 @@ pub fn list_marks(sheet: &[u8], list: &mut [u8]) -> ListAnswer
     ensures { λ r. ⌜ Lists (readKb limit (now (sheet .entry))) (now (list .entry)) (now (list .exit)) r ⌝ }
 {
     let mut table = [0u32; 255];
-    let mut parts = [0u16; 20];
+    let mut parts = [0u32; 20];
     let a = admit(sheet, &mut table, &mut parts, LIMIT);
     if a.fault != 0 {
         return ListAnswer::Refused(a.fault, a.place);
@@ -108,7 +110,7 @@ pub fn list_marks(sheet: &[u8], list: &mut [u8]) -> ListAnswer
 }
 
 // The three bytes of one part.
-fn write_part(slot: &mut [u8], word: u16)
+fn write_part(slot: &mut [u8], word: u32)
     requires { ⌜ length (now slot) ≡ 3 ⌝ }
     ensures { λ _. ⌜ now (slot .exit) ≡ slotBytes word ⌝ }
 {
@@ -118,7 +120,7 @@ fn write_part(slot: &mut [u8], word: u16)
 }
 
 // The slots of c parts, from the front; the bytes after them stay.
-fn write_slots(parts: &[u16], c: usize, list: &mut [u8])
+fn write_slots(parts: &[u32], c: usize, list: &mut [u8])
     requires { ⌜ (c ≤ length (now parts)) × (3 * c ≤ length (now list)) ⌝ }
     ensures { λ _. ⌜ now (list .exit) ≡ slotsOf (take c (now (parts .entry))) ++ drop (3 * c) (now (list .entry)) ⌝ }
 {
@@ -132,7 +134,7 @@ fn write_slots(parts: &[u16], c: usize, list: &mut [u8])
 }
 
 // The same off the table of parts, which has room for 20.
-fn write_parts(parts: &[u16; 20], c: usize, list: &mut [u8])
+fn write_parts(parts: &[u32; 20], c: usize, list: &mut [u8])
     requires { ⌜ (c ≤ 20) × (3 * c ≤ length (now list)) ⌝ }
     ensures { λ _. ⌜ (length (now (parts .entry)) ≡ 20) × (now (list .exit) ≡ slotsOf (take c (now (parts .entry))) ++ drop (3 * c) (now (list .entry))) ⌝ }
 {

@@ -1,16 +1,16 @@
 // The parts of the flattened knowledge base, found in the order of the queue.
 ghost use mathlib.Core.Path.{_≡_};
-ghost use Prim.Native.Nat.{ℕ, _+_, _<_, _≤_};
-ghost use mathlib.Core.Bool.{Bool, true, false, cond};
-ghost use mathlib.Core.List.{List, [], _∷_, _++_};
+ghost use Prim.Native.Nat.{_+_, _<_, _≤_};
+ghost use mathlib.Core.List.{List};
 ghost use lib.ListN.{length, set};
 ghost use Rattle.tbox.specs.Concepts.{nodesOf, axiomsOf};
 ghost use Rattle.tbox.specs.Normal.{plain, negated};
 ghost use Rattle.tbox.specs.Flatten.{atom, nameParts, pendings, flatten};
 ghost use Rattle.tbox.specs.declared.records.Entry.{Entry};
 ghost use Rattle.tbox.specs.Order.{axiomTurn};
-ghost use Rattle.tbox.specs.Tables.{seen, conceptBelow, AtomIs, partWord, Pushed, Met, Held, Adds, AddsAll, AddsTurn};
+ghost use Rattle.tbox.specs.Tables.{seen, conceptBelow, roleBelow, AtomIs, partWord, Pushed, Met, Held, Adds, AddsAll, AddsTurn};
 use crate::records::record_at;
+use crate::sharing::first_alike;
 
 // The normal form of record r, of those below a number, as a filler: a name's number, 256 everything, 257 nothing, 258 for
 // one that needs a fresh name.
@@ -56,7 +56,7 @@ pub(crate) fn negated_atom(table: &[u32; 255], count: usize, r: u8, below: usize
 }
 
 // Sets one word.
-fn put(parts: &mut [u16], n: usize, word: u16)
+fn put(parts: &mut [u32], n: usize, word: u32)
     requires { ⌜ n < length (now parts) ⌝ }
     ensures { λ _. ⌜ now (parts .exit) ≡ set (now (parts .entry)) n word ⌝ }
 {
@@ -64,7 +64,7 @@ fn put(parts: &mut [u16], n: usize, word: u16)
 }
 
 // Puts a part at the end of the table; a count above the limit says that there are too many.
-fn push(parts: &mut [u16; 20], n: usize, limit: usize, word: u16) -> usize
+fn push(parts: &mut [u32; 20], n: usize, limit: usize, word: u32) -> usize
     requires { ⌜ limit ≤ 20 ⌝ }
     ensures { λ m. ⌜ Pushed limit (now (parts .entry)) n word (now (parts .exit)) m ⌝ }
 {
@@ -76,33 +76,45 @@ fn push(parts: &mut [u16; 20], n: usize, limit: usize, word: u16) -> usize
 }
 
 // A part's word: kind 0 name, 1 fresh, 2 existential, 3 universal; 1 if read under an odd number of nots; the number of the
-// name or of the record.
-fn part_word(kind: u8, odd: u8, number: u8) -> u16
-    requires { ⌜ (kind < 4) × (odd < 2) ⌝ }
-    ensures { λ w. ⌜ w ≡ partWord kind odd number ⌝ }
+// name or of the record; a restriction's filler, as plain_atom has it.
+fn part_word(kind: u8, odd: u8, number: u8, filler: usize) -> u32
+    requires { ⌜ (kind < 4) × (odd < 2) × (filler < 259) ⌝ }
+    ensures { λ w. ⌜ w ≡ partWord kind odd number filler ⌝ }
 {
-    (kind as u16) + ((odd as u16) << 2) + ((number as u16) << 3)
+    (kind as u32) + ((odd as u32) << 2) + ((number as u32) << 3) + ((filler as u32) << 11)
 }
 
-// A restriction, record r, met: its part, and the next one for its filler, unless that is a name, everything or nothing.
+// A restriction, record r, met: its part, and the next one for its filler where that needs a fresh name; no part where one
+// alike is there.
 fn meet(
-    parts: &mut [u16; 20],
+    table: &[u32; 255],
+    count: usize,
+    parts: &mut [u32; 20],
     n: usize,
     limit: usize,
     kind: u8,
     odd: u8,
     r: u8,
+    role: u8,
     filler: u8,
     atom: usize,
 ) -> usize
-    requires { ⌜ (limit ≤ 20) × (kind < 4) × (odd < 2) ⌝ }
-    ensures { λ m. ⌜ Met limit (now (parts .entry)) n (partWord kind odd r) (partWord 1 odd filler) atom (now (parts .exit)) m ⌝ }
+    requires { ⌜ (count ≤ 255) × (limit ≤ 20) × (2 ≤ kind) × (kind < 4) × (odd < 2) × (atom < 259) ⌝ }
+    ensures { λ m. ⌜ Met limit (seen (now (table .entry)) count) kind (roleBelow (seen (now (table .entry)) count) r role) (now (parts .entry)) n (partWord kind odd r atom) (partWord 1 odd filler 0) atom (now (parts .exit)) m ⌝ }
 {
-    let m = push(parts, n, limit, part_word(kind, odd, r));
-    if atom == 258 {
-        return push(parts, m, limit, part_word(1, odd, filler));
+    if limit < n {
+        return n;
     }
-    m
+    let word = part_word(kind, odd, r, atom);
+    if atom == 258 {
+        let m = push(parts, n, limit, word);
+        return push(parts, m, limit, part_word(1, odd, filler, 0));
+    }
+    let j = first_alike(table, count, parts, n, kind, role, r as usize, atom);
+    if j < n {
+        return n;
+    }
+    push(parts, n, limit, word)
 }
 
 // The parts of the normal form of record r, of those below a number, from left to right.
@@ -111,7 +123,7 @@ fn plain_parts(
     count: usize,
     r: u8,
     below: usize,
-    parts: &mut [u16; 20],
+    parts: &mut [u32; 20],
     n: usize,
     limit: usize,
 ) -> usize
@@ -134,11 +146,11 @@ fn plain_parts(
         }
         0x07 => {
             let f = plain_atom(table, count, b, i);
-            meet(parts, n, limit, 2, 0, r, b, f)
+            meet(table, count, parts, n, limit, 2, 0, r, a, b, f)
         }
         0x08 => {
             let f = plain_atom(table, count, b, i);
-            meet(parts, n, limit, 3, 0, r, b, f)
+            meet(table, count, parts, n, limit, 3, 0, r, a, b, f)
         }
         _ => n,
     }
@@ -150,7 +162,7 @@ fn negated_parts(
     count: usize,
     r: u8,
     below: usize,
-    parts: &mut [u16; 20],
+    parts: &mut [u32; 20],
     n: usize,
     limit: usize,
 ) -> usize
@@ -173,18 +185,18 @@ fn negated_parts(
         }
         0x07 => {
             let f = negated_atom(table, count, b, i);
-            meet(parts, n, limit, 3, 1, r, b, f)
+            meet(table, count, parts, n, limit, 3, 1, r, a, b, f)
         }
         0x08 => {
             let f = negated_atom(table, count, b, i);
-            meet(parts, n, limit, 2, 1, r, b, f)
+            meet(table, count, parts, n, limit, 2, 1, r, a, b, f)
         }
         _ => n,
     }
 }
 
 // The parts of so many names.
-fn name_parts(names: usize, parts: &mut [u16; 20], limit: usize) -> usize
+fn name_parts(names: usize, parts: &mut [u32; 20], limit: usize) -> usize
     requires { ⌜ limit ≤ 20 ⌝ }
     ensures { λ m. ⌜ ((es : List Entry) → Held limit es (now (parts .exit)) m (nameParts names)) ⌝ }
 {
@@ -194,7 +206,7 @@ fn name_parts(names: usize, parts: &mut [u16; 20], limit: usize) -> usize
         if n == names {
             return n;
         }
-        n = push(parts, n, limit, part_word(0, 0, i));
+        n = push(parts, n, limit, part_word(0, 0, i, 0));
         i = i + 1;
     }
     n
@@ -205,7 +217,7 @@ fn axiom_at(
     table: &[u32; 255],
     count: usize,
     i: u8,
-    parts: &mut [u16; 20],
+    parts: &mut [u32; 20],
     n: usize,
     limit: usize,
 ) -> usize
@@ -225,7 +237,7 @@ fn axiom_at(
 fn axiom_parts(
     table: &[u32; 255],
     count: usize,
-    parts: &mut [u16; 20],
+    parts: &mut [u32; 20],
     n: usize,
     limit: usize,
 ) -> usize
@@ -245,8 +257,8 @@ fn axiom_parts(
 fn turn(
     table: &[u32; 255],
     count: usize,
-    word: u16,
-    parts: &mut [u16; 20],
+    word: u32,
+    parts: &mut [u32; 20],
     n: usize,
     limit: usize,
 ) -> usize
@@ -268,7 +280,7 @@ pub(crate) fn flatten(
     table: &[u32; 255],
     count: usize,
     names: usize,
-    parts: &mut [u16; 20],
+    parts: &mut [u32; 20],
     limit: usize,
 ) -> usize
     requires { ⌜ (count ≤ 255) × (limit ≤ 20) ⌝ }

@@ -53,7 +53,7 @@ impl Sheet {
 
 /// Every sheet with its name.
 #[must_use]
-pub fn all() -> [(&'static str, Sheet); 6] {
+pub fn all() -> [(&'static str, Sheet); 10] {
     [
         ("boolean tree", boolean_tree()),
         ("boolean chain", boolean_chain()),
@@ -61,6 +61,10 @@ pub fn all() -> [(&'static str, Sheet); 6] {
         ("12 restrictions", twelve_restrictions()),
         ("250 nots", nots()),
         ("unused records", unused()),
+        ("one claim 126 times", one_claim()),
+        ("125 claims, 10 different", ten_claims()),
+        ("role trees alike", role_trees(1, 61)),
+        ("role trees nearly alike", role_trees(8, 13)),
     ]
 }
 
@@ -149,25 +153,81 @@ fn many_axioms() -> Sheet {
     sheet.full()
 }
 
-/// Twelve restrictions among ands and ors. Beside a role eleven parts fit, so
-/// one restriction is unused.
+/// Twelve restrictions among ands and ors, no two alike. Beside a role eleven
+/// parts fit, so one restriction is unused.
 fn twelve_restrictions() -> Sheet {
     let mut sheet = Sheet::default();
     let top = sheet.push([TOP]);
     let bottom = sheet.push([BOTTOM]);
     let role = sheet.push([ROLE, 0]);
     let inverse = sheet.push([INVERSE, 0]);
-    for turn in 0..11 {
-        let mut concept = match turn % 2 {
-            0 => sheet.push([EXISTS, role, top]),
-            _ => sheet.push([FORALL, inverse, bottom]),
+    let restriction = |sheet: &mut Sheet, turn: usize| {
+        let kind = [EXISTS, FORALL][turn % 2];
+        let filler = [top, bottom][turn / 2 % 2];
+        let role = match turn / 4 {
+            0 => role,
+            1 => inverse,
+            _ => sheet.push([ROLE_AND, role, inverse]),
         };
+        sheet.push([kind, role, filler])
+    };
+    for turn in 0..11 {
+        let mut concept = restriction(&mut sheet, turn);
         for depth in 0..20 {
             concept = sheet.push([and_or(depth), concept, top]);
         }
         sheet.push([AXIOM, top, concept]);
     }
-    sheet.push([EXISTS, role, top]);
+    restriction(&mut sheet, 11);
+    sheet.full()
+}
+
+/// S1's axiom as often as there is room for.
+fn one_claim() -> Sheet {
+    let mut sheet = Sheet::default();
+    let top = sheet.push([TOP]);
+    let role = sheet.push([ROLE, 0]);
+    let name = sheet.push([NAME, 0]);
+    while sheet.room() >= 2 {
+        let exists = sheet.push([EXISTS, role, name]);
+        sheet.push([AXIOM, top, exists]);
+    }
+    sheet.full()
+}
+/// Ten claims, made by turns as often as there is room for.
+fn ten_claims() -> Sheet {
+    let mut sheet = Sheet::default();
+    let fillers = [sheet.push([TOP]), sheet.push([BOTTOM])];
+    let roles = [[ROLE, 0], [INVERSE, 0], [ROLE, 1]].map(|role| sheet.push(role));
+    for claim in (0..10).cycle() {
+        if sheet.room() < 2 {
+            break;
+        }
+        let kind = [EXISTS, FORALL][claim % 2];
+        let filler = fillers[claim / 2 % 2];
+        let restriction = sheet.push([kind, roles[claim / 4], filler]);
+        sheet.push([AXIOM, fillers[0], restriction]);
+    }
+    sheet.full()
+}
+
+/// Restrictions by roles of so many ands, each inside the next, that differ in
+/// the last leaf alone: one for each of so many leaves, then all like the last.
+fn role_trees(leaves: u8, ands: usize) -> Sheet {
+    let mut sheet = Sheet::default();
+    let top = sheet.push([TOP]);
+    let leaves = (0..leaves).map(|leaf| sheet.push([ROLE + leaf % 2, leaf / 2]));
+    let leaves: Vec<u8> = leaves.collect();
+    let mut turn = 0;
+    while sheet.room() >= ands + 2 {
+        let mut role = leaves[turn.min(leaves.len() - 1)];
+        for _ in 0..ands {
+            role = sheet.push([ROLE_AND, leaves[0], role]);
+        }
+        let exists = sheet.push([EXISTS, role, top]);
+        sheet.push([AXIOM, top, exists]);
+        turn += 1;
+    }
     sheet.full()
 }
 

@@ -32,6 +32,11 @@ fn worked_sheets() {
 }
 
 #[test]
+fn claims_alike() {
+    suites::judged_claims(&Plain);
+}
+
+#[test]
 fn small_sheets() {
     report("plain, c + L up to 7", &suites::small_dominoes(&Plain));
 }

@@ -164,21 +164,27 @@ fn overfill(sheet: &mut Sheet, random: &mut Random) {
     }
 }
 
-/// Axioms with one restriction each, around the most that fit or far more.
+/// Axioms with one restriction each, around the most that fit or far more. Half
+/// of their fillers get a fresh name; the others make few claims, often.
 fn add_restrictions(sheet: &mut Sheet, random: &mut Random) {
     let axioms = match random.below(4) {
         0 => 80,
         _ => 4 + random.below(10),
     };
-    let room = MAX_RECORDS.saturating_sub(sheet.starts.len() + 2) / 2;
+    let room = MAX_RECORDS.saturating_sub(sheet.starts.len() + 2) / 3;
     if room == 0 {
         return;
     }
     let role = sheet.push(&[0x10, random.byte_below(2)]);
-    let filler = sheet.push(&[random.pick(&[0x01, 0x02])]);
+    let leaf = sheet.push(&[random.pick(&[0x01, 0x02])]);
     for _ in 0..axioms.min(room) {
+        let filler = if random.one_in(2) {
+            sheet.push(&[0x05, leaf, leaf])
+        } else {
+            leaf
+        };
         let restriction = sheet.push(&[random.pick(&[0x07, 0x08]), role, filler]);
-        let sides = random.pick(&[[filler, restriction], [restriction, filler]]);
+        let sides = random.pick(&[[leaf, restriction], [restriction, leaf]]);
         sheet.push(&[0x20, sides[0], sides[1]]);
     }
 }

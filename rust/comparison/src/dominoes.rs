@@ -3,6 +3,7 @@
 use crate::hex::Hex;
 use crate::lent::{contents, Lent};
 use crate::random::Random;
+use crate::sharing::Sharing;
 use crate::{Judging, Reference};
 use reference::domino::{has, Domino, Shape};
 use reference::flat::flatten;
@@ -63,6 +64,7 @@ pub struct Tally {
     pub struck_and: [[u64; 7]; 7],
     /// Sheets by parts and roles together.
     pub sizes: [u64; 13],
+    pub sharing: Sharing,
 }
 
 impl Tally {
@@ -126,9 +128,11 @@ impl Tally {
         self.unmet_in_steps += u64::from(!judgement.met && judgement.opening > 0);
     }
 
-    pub(crate) fn count_size(&mut self, counts: Counts) {
+    /// Counts a sheet that is accepted.
+    pub(crate) fn count_accepted(&mut self, sheet: &[u8], counts: Counts) {
         self.sheets += 1;
         self.sizes[(counts.marks + counts.links) as usize] += 1;
+        self.sharing.count(sheet, counts);
     }
 
     /// Compares every call on one sheet, with several sets. Sets that would
@@ -136,7 +140,7 @@ impl Tally {
     pub fn compare(&mut self, engine: &impl Judging, sheet: &[u8], random: &mut Random) {
         match reference::read(sheet) {
             Ok(counts) => {
-                self.count_size(counts);
+                self.count_accepted(sheet, counts);
                 let shape = Shape {
                     parts: counts.marks as usize,
                     roles: counts.links as usize,
@@ -277,7 +281,8 @@ impl fmt::Display for Tally {
             write!(f, "; each two conditions failing at once: {rarest} or more")?;
         }
         list(f, "; refusals", &self.refused)?;
-        list(f, "; sheets by c + L", &self.sizes)
+        list(f, "; sheets by c + L", &self.sizes)?;
+        self.sharing.fmt(f)
     }
 }
 

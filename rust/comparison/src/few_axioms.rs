@@ -1,7 +1,8 @@
 //! Sheets of a few axioms whose restrictions work against one another, so that
 //! dominoes go step by step.
 
-use crate::made_up::Sheet;
+use crate::copies;
+use crate::made_up::{Sheet, MAX_RECORDS};
 use crate::random::Random;
 use reference::domino::Shape;
 use reference::{Counts, Judgement};
@@ -49,18 +50,25 @@ struct Writer<'a> {
     roles: usize,
     /// Parts that may still be added.
     room: usize,
+    /// Restrictions that may be copied.
+    restrictions: Vec<u8>,
+    /// Whether they are.
+    copying: bool,
 }
 
 impl<'a> Writer<'a> {
     fn new(size: usize, random: &'a mut Random) -> Self {
         let roles = random.pick(&[0, 1, 1, 1, 1, 1, 2, 2, 3, 4]).min(size);
         let names = random.below((size - roles).min(3) + 1);
+        let copying = !random.one_in(3);
         Writer {
             random,
             sheet: Sheet::default(),
             names,
             roles,
             room: size - roles - names,
+            restrictions: Vec::new(),
+            copying,
         }
     }
 
@@ -72,10 +80,10 @@ impl<'a> Writer<'a> {
                 2 => self.leaf(),
                 _ => self.concept(1),
             };
-            let right = if self.room > 0 && self.roles > 0 {
-                self.restriction(2)
-            } else {
-                self.concept(2)
+            let right = match self.copy() {
+                Some(copy) => copy,
+                None if self.room > 0 && self.roles > 0 => self.restriction(2),
+                None => self.concept(2),
             };
             self.sheet.push(&[0x20, left, right]);
             if axiom + 1 >= most && self.room == 0 {
@@ -95,6 +103,9 @@ impl<'a> Writer<'a> {
     }
 
     fn concept(&mut self, depth: usize) -> u8 {
+        if let Some(copy) = self.copy() {
+            return copy;
+        }
         match self.random.below(8) {
             0 | 1 if depth > 0 && self.room > 0 && self.roles > 0 => self.restriction(depth),
             2 | 3 if depth > 0 => self.nots(depth),
@@ -128,8 +139,19 @@ impl<'a> Writer<'a> {
         } else {
             self.leaf()
         };
-        self.sheet
-            .push(&[self.random.pick(&[0x07, 0x08]), role, filler])
+        let kind = self.random.pick(&[0x07, 0x08]);
+        let restriction = self.sheet.push(&[kind, role, filler]);
+        self.restrictions.push(restriction);
+        restriction
+    }
+
+    /// Now and then a copy of an earlier restriction.
+    fn copy(&mut self) -> Option<u8> {
+        if !self.copying || self.restrictions.is_empty() || !self.random.one_in(3) {
+            return None;
+        }
+        let restriction = self.random.pick(&self.restrictions);
+        copies::copy(&mut self.sheet, restriction, MAX_RECORDS, self.random)
     }
 
     /// A role that fails on the empty role set.

@@ -1,6 +1,8 @@
 //! Made-up sheets, and the comparison of an engine's calls with the reference:
 //! answers, places, and each word and byte of what is lent.
 
+pub mod claims;
+pub mod copies;
 pub mod damage;
 pub mod dominoes;
 pub mod few_axioms;
@@ -9,6 +11,7 @@ pub mod queues;
 pub mod random;
 pub mod reading;
 pub mod sequences;
+pub mod sharing;
 pub mod suites;
 pub mod worked;
 
@@ -35,6 +38,16 @@ pub trait Judging {
 
 /// The reference itself.
 pub struct Reference;
+
+impl Reading for Reference {
+    fn read(&self, sheet: &[u8]) -> Result<Counts, Refusal> {
+        reference::read(sheet)
+    }
+
+    fn list_marks(&self, sheet: &[u8], list: &mut [u8]) -> Result<(), Refusal> {
+        reference::list_marks(sheet, list).map(drop)
+    }
+}
 
 impl Judging for Reference {
     fn open(&self, sheet: &[u8], set: &mut [u64]) -> Result<u64, Refusal> {

@@ -1,5 +1,6 @@
 //! Sheets without faults 1 to 8, built record by record.
 
+use crate::copies;
 use crate::random::Random;
 
 pub const MAX_RECORDS: usize = 255;
@@ -40,6 +41,8 @@ pub struct Sheet {
     roles: Pool,
     /// Roles that hold on it.
     empty_roles: Vec<u8>,
+    /// Restrictions that may be copied.
+    restrictions: Vec<u8>,
 }
 
 impl Sheet {
@@ -57,6 +60,14 @@ impl Sheet {
         number
     }
 
+    /// The bytes of a record.
+    #[must_use]
+    pub fn record(&self, number: u8) -> &[u8] {
+        let number = usize::from(number);
+        let end = self.starts.get(number + 1).copied();
+        &self.bytes[self.starts[number]..end.unwrap_or(self.bytes.len())]
+    }
+
     pub fn leaf_concept(&mut self, record: &[u8]) {
         let number = self.push(record);
         self.concepts.shared.push(number);
@@ -67,9 +78,10 @@ impl Sheet {
         self.roles.shared.push(number);
     }
 
-    fn concept(&mut self, record: &[u8]) {
+    fn concept(&mut self, record: &[u8]) -> u8 {
         let number = self.push(record);
         self.concepts.once.push(number);
+        number
     }
 
     fn role(&mut self, record: &[u8], holds_on_empty: bool) {
@@ -110,13 +122,30 @@ impl Sheet {
     }
 
     fn restriction(&mut self, random: &mut Random) {
-        let (u, c) = (self.roles.take(random), self.concepts.take(random));
-        self.concept(&[random.pick(&[0x07, 0x08]), u, c]);
+        let u = self.roles.take(random);
+        let c = if random.one_in(2) && !self.concepts.shared.is_empty() {
+            random.pick(&self.concepts.shared)
+        } else {
+            self.concepts.take(random)
+        };
+        let restriction = self.concept(&[random.pick(&[0x07, 0x08]), u, c]);
+        self.restrictions.push(restriction);
     }
 
     pub fn axiom(&mut self, random: &mut Random) {
         let (c, d) = (self.concepts.take(random), self.concepts.take(random));
         self.push(&[0x20, c, d]);
+    }
+
+    /// An axiom with that concept on one side and a leaf on the other.
+    fn axiom_of(&mut self, concept: u8, on_left: bool, random: &mut Random) {
+        let leaf = random.pick(&self.concepts.shared);
+        let [left, right] = if on_left {
+            [concept, leaf]
+        } else {
+            [leaf, concept]
+        };
+        self.push(&[0x20, left, right]);
     }
 
     pub fn not_role(&mut self, random: &mut Random) {
@@ -143,17 +172,19 @@ enum Step {
     Not,
     Boolean,
     Restriction,
+    Copy,
     NotRole,
     BooleanRole,
     Axiom,
 }
 
-const STEPS: [Step; 8] = [
+const STEPS: [Step; 9] = [
     Step::Leaf,
     Step::LeafRole,
     Step::Not,
     Step::Boolean,
     Step::Restriction,
+    Step::Copy,
     Step::NotRole,
     Step::BooleanRole,
     Step::Axiom,
@@ -165,6 +196,8 @@ struct Plan {
     roles: usize,
     records: usize,
     restrictions: usize,
+    /// Claims that are made again and again.
+    claims: usize,
     /// Steps, the frequent ones more than once.
     steps: Vec<Step>,
     /// Whether axioms are to reach what would stay unused.
@@ -183,6 +216,7 @@ impl Plan {
             roles,
             records: record_count(random),
             restrictions: restriction_count(random, 12 - names - roles),
+            claims: claim_count(random, roles),
             steps: steps(random),
             reach_all: !random.one_in(4),
         }
@@ -202,6 +236,7 @@ fn small_plan(most: usize, random: &mut Random) -> Plan {
             _ => 6 + random.below(30),
         },
         restrictions: 1 + random.below(most - roles - names + 1),
+        claims: claim_count(random, roles),
         steps: steps(random),
         reach_all: !random.one_in(6),
     }
@@ -225,6 +260,17 @@ fn restriction_count(random: &mut Random, room: usize) -> usize {
     }
 }
 
+/// None in half of the sheets, and where there is no role.
+fn claim_count(random: &mut Random, roles: usize) -> usize {
+    if roles == 0 || random.one_in(2) {
+        return 0;
+    }
+    match random.below(4) {
+        0 => 2 + random.below(3),
+        _ => 1,
+    }
+}
+
 fn steps(random: &mut Random) -> Vec<Step> {
     let mut steps = vec![Step::Leaf, Step::LeafRole, Step::Restriction];
     for step in STEPS {
@@ -237,6 +283,14 @@ fn steps(random: &mut Random) -> Vec<Step> {
 /// A made-up sheet without faults 1 to 8.
 pub fn sheet(random: &mut Random) -> Sheet {
     by_plan(Plan::new(random), random)
+}
+
+/// A made-up sheet without faults 1 to 8 that makes claims again and again.
+pub fn repeating_sheet(random: &mut Random) -> Sheet {
+    let mut plan = Plan::new(random);
+    plan.roles = plan.roles.max(1);
+    plan.claims = plan.claims.max(1);
+    by_plan(plan, random)
 }
 
 /// A made-up sheet without faults whose parts and roles come to at most `most`.
@@ -275,6 +329,9 @@ fn by_plan(mut plan: Plan, random: &mut Random) -> Sheet {
         let step = random.pick(&plan.steps);
         add(&mut sheet, step, &mut plan, random);
     }
+    for _ in 0..plan.claims {
+        repeat_claim(&mut sheet, &plan, random);
+    }
     if plan.reach_all {
         reach_all(&mut sheet, random);
     }
@@ -295,7 +352,50 @@ fn add(sheet: &mut Sheet, step: Step, plan: &mut Plan, random: &mut Random) {
             plan.restrictions -= 1;
             sheet.restriction(random);
         }
+        Step::Copy if !sheet.restrictions.is_empty() => add_copy(sheet, plan, random),
         _ => add_leaf(sheet, plan.names, random),
+    }
+}
+
+/// A copy of an earlier restriction, if there is room. One with a fresh name
+/// counts as a restriction more.
+fn add_copy(sheet: &mut Sheet, plan: &mut Plan, random: &mut Random) {
+    let restriction = random.pick(&sheet.restrictions);
+    let is_new = !copies::has_plain_filler(sheet, restriction);
+    if is_new && plan.restrictions == 0 {
+        return add_leaf(sheet, plan.names, random);
+    }
+    match copies::copy(sheet, restriction, plan.records, random) {
+        Some(copy) => {
+            plan.restrictions -= usize::from(is_new);
+            sheet.concepts.once.push(copy);
+        }
+        None => add_leaf(sheet, plan.names, random),
+    }
+}
+
+/// Axioms that make a claim several times, as far as there is room.
+fn repeat_claim(sheet: &mut Sheet, plan: &Plan, random: &mut Random) {
+    if sheet.starts.len() + 4 > MAX_RECORDS {
+        return;
+    }
+    add_leaf(sheet, plan.names, random);
+    add_leaf_role(sheet, plan.roles, random);
+    let u = sheet.roles.take(random);
+    let c = random.pick(&sheet.concepts.shared);
+    let claim = sheet.push(&[random.pick(&[0x07, 0x08]), u, c]);
+    let on_left = random.one_in(3);
+    sheet.axiom_of(claim, on_left, random);
+    let copies = match random.below(8) {
+        0 => 1 + random.below(40),
+        _ => 1 + random.below(5),
+    };
+    for _ in 0..copies {
+        let Some(copy) = copies::copy(sheet, claim, MAX_RECORDS - 1, random) else {
+            return;
+        };
+        let on_left = on_left != random.one_in(8);
+        sheet.axiom_of(copy, on_left, random);
     }
 }
 

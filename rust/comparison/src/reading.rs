@@ -3,8 +3,9 @@
 use crate::dominoes::list;
 use crate::hex::Hex;
 use crate::random::Random;
+use crate::sharing::Sharing;
 use crate::Reading;
-use reference::Refusal;
+use reference::{Counts, Refusal};
 use std::fmt;
 
 /// Bytes on either side of a list, which no call may change.
@@ -16,6 +17,7 @@ pub struct Tally {
     pub sheets: u64,
     pub comparisons: u64,
     pub accepted: u64,
+    pub sharing: Sharing,
     /// By the number of the refusal.
     pub refused: [u64; 13],
 }
@@ -29,9 +31,10 @@ impl Tally {
     pub fn compare(&mut self, engine: &impl Reading, sheet: &[u8], random: &mut Random) {
         self.sheets += 1;
         let marks = match self.compare_read(engine, sheet) {
-            Ok(marks) => {
+            Ok(counts) => {
                 self.accepted += 1;
-                marks
+                self.sharing.count(sheet, counts);
+                counts.marks as usize
             }
             Err(refusal) => {
                 self.refused[refusal.number as usize] += 1;
@@ -48,12 +51,11 @@ impl Tally {
         }
     }
 
-    /// Answers the number of parts, if the sheet is accepted.
-    fn compare_read(&mut self, engine: &impl Reading, sheet: &[u8]) -> Result<usize, Refusal> {
+    fn compare_read(&mut self, engine: &impl Reading, sheet: &[u8]) -> Result<Counts, Refusal> {
         let expected = reference::read(sheet);
         assert_eq!(engine.read(sheet), expected, "read of {}", Hex(sheet));
         self.comparisons += 1;
-        expected.map(|counts| counts.marks as usize)
+        expected
     }
 
     fn compare_list(
@@ -90,6 +92,7 @@ impl fmt::Display for Tally {
             "{} comparisons on {} sheets: {} accepted",
             self.comparisons, self.sheets, self.accepted
         )?;
-        list(f, "; refusals", &self.refused)
+        list(f, "; refusals", &self.refused)?;
+        self.sharing.fmt(f)
     }
 }

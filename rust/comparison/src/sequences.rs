@@ -37,7 +37,8 @@ pub fn compare(
     let Ok(mut run) = Run::open(tally, engine, sheet, random) else {
         return;
     };
-    tally.count_size(reference::read(sheet).expect("a sheet that was opened"));
+    let counts = reference::read(sheet).expect("a sheet that was opened");
+    tally.count_accepted(sheet, counts);
     tally.count_judgement(run.judgement);
     run.check();
     let settlings = random.pick(&[0, 0, 1, 8]);

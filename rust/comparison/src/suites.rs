@@ -3,7 +3,7 @@
 use crate::dominoes::{Answer, Call, Tally};
 use crate::random::Random;
 use crate::worked::Before;
-use crate::{damage, few_axioms, made_up, reading, sequences, worked, Judging, Reading};
+use crate::{claims, damage, few_axioms, made_up, reading, sequences, worked, Judging, Reading};
 use reference::domino::remove;
 use reference::{Strike, Verdict};
 use std::io::{self, Write};
@@ -53,6 +53,23 @@ pub fn made_up_reading(engine: &impl Reading) -> reading::Tally {
     for _ in 0..times(10_000) {
         tally.compare(engine, &damage::noise(&mut random), &mut random);
     }
+    tally
+}
+
+/// Made-up sheets that make claims again and again.
+///
+/// # Panics
+///
+/// Where engine and reference differ, or parts are seldom shared.
+pub fn repeating_reading(engine: &impl Reading) -> reading::Tally {
+    let mut random = Random::seeded(9);
+    let mut tally = reading::Tally::default();
+    for _ in 0..times(45_000) {
+        let sheet = made_up::repeating_sheet(&mut random).bytes;
+        tally.compare(engine, &sheet, &mut random);
+    }
+    assert!(tally.sharing.shared >= 20_000, "{tally}");
+    assert!(tally.sharing.refused_apart >= 5_000, "{tally}");
     tally
 }
 
@@ -139,6 +156,59 @@ fn worked_strike(engine: &impl Judging, sheet: &[u8], before: Before, strike: St
     assert_eq!(set, after, "{strike:?}");
 }
 
+/// The parts of sheets whose restrictions are written alike, or nearly so,
+/// without the reference.
+///
+/// # Panics
+///
+/// Where the engine answers otherwise.
+pub fn listed_claims(engine: &impl Reading) {
+    for &(what, hex, marks, _) in claims::LISTED {
+        let sheet = worked::from_hex(hex);
+        let counted = engine.read(&sheet).map(|counts| counts.marks);
+        assert_eq!(counted, Ok(marks.len() as u64), "{what}");
+        let marks = marks.as_flattened();
+        let mut list = vec![9; marks.len() + 4];
+        assert_eq!(engine.list_marks(&sheet, &mut list), Ok(()), "{what}");
+        assert_eq!(list, [marks, &[9; 4]].concat(), "{what}");
+        let mut short = vec![9; marks.len() - 1];
+        let refusal = engine.list_marks(&sheet, &mut short).unwrap_err();
+        assert_eq!((refusal.number, refusal.place), (12, 0), "{what}");
+        assert!(short.iter().all(|&byte| byte == 9), "{what}");
+    }
+    for row in claims::judged() {
+        assert_eq!(engine.read(&row.sheet), Ok(row.counts), "{}", row.what);
+    }
+}
+
+/// The numbers of sheets that make one claim often, without the reference: sets
+/// and domino numbers go by the smaller count.
+///
+/// # Panics
+///
+/// Where the engine answers otherwise.
+pub fn judged_claims(engine: &impl Judging) {
+    for row in claims::judged() {
+        let (sheet, what) = (&row.sheet, row.what);
+        let size = row.counts.marks + row.counts.links;
+        let dominoes = 4_u64.pow(size as u32);
+        let mut set = vec![7; dominoes.div_ceil(64) as usize];
+        let mut short = vec![7; set.len() - 1];
+        let refusal = engine.judge(sheet, &mut short).unwrap_err();
+        assert_eq!((refusal.number, refusal.place), (10, 0), "{what}");
+        let opening = engine.open(sheet, &mut set);
+        assert_eq!(opening, Ok(row.judgement.opening), "{what}");
+        let refusal = engine.strike(sheet, &mut set, dominoes).unwrap_err();
+        assert_eq!((refusal.number, refusal.place), (11, 0), "{what}");
+        let last = engine.strike(sheet, &mut set, dominoes - 1);
+        assert_eq!(last.map(|strike| strike.number), Ok(dominoes - 1), "{what}");
+        let survivors = engine.settle(sheet, &mut set);
+        assert_eq!(survivors, Ok(row.judgement.survivors), "{what}");
+        let judgement = engine.judge(sheet, &mut set);
+        assert_eq!(judgement, Ok(row.judgement), "{what}");
+    }
+}
+
 /// Made-up sheets whose parts and roles come to at most 7.
 ///
 /// # Panics
@@ -157,6 +227,7 @@ pub fn small_dominoes(engine: &impl Judging) -> Tally {
         tally.compare(engine, &sheet, &mut random);
     }
     assert!(4 * tally.unmet >= tally.sheets && 10 * tally.unmet_in_steps >= tally.sheets);
+    assert!(6 * tally.sharing.shared >= tally.sheets, "{tally}");
     assert!(tally.struck[1..].iter().all(|&count| count >= 500));
     for (told, also) in (1..).zip(&tally.struck_and[1..]) {
         let all_seen = also[told + 1..].iter().all(|&count| count >= 20);

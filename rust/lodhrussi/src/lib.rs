@@ -48,8 +48,8 @@ pub struct Counts {
     pub traits: u64,
     /// One more than the largest number of a role, or 0.
     pub links: u64,
-    /// The parts of the flattened knowledge base. Parts and roles come to at
-    /// most 12.
+    /// The parts of the flattened knowledge base, as [`list_marks`] lists them.
+    /// Parts and roles come to at most 12.
     pub marks: u64,
 }
 
@@ -92,12 +92,25 @@ pub fn read(sheet: &[u8]) -> Result<Counts, Refusal> {
 /// 3. 1 if that record is read under an odd number of nots, else 0. The left
 ///    side of an axiom counts as a not.
 ///
+/// One claim has one part: restrictions of the same kind in normal form, with
+/// roles written alike and the same filler in normal form, share a part if that
+/// filler is a name, everything or nothing. The record first met is listed.
+///
 /// Bytes of `list` past the last part are kept; a refusal keeps all.
 ///
 /// # Errors
 ///
 /// The refusals of [`read`], then 12 if `list` is shorter than
 /// 3 × [`Counts::marks`].
+///
+/// ```
+/// // Twice: everything is some of role 0 is name 0.
+/// let sheet = [1, 0x10, 0, 3, 0, 7, 1, 2, 0x20, 0, 3, 7, 1, 2, 0x20, 0, 5];
+/// let mut list = [9; 9];
+/// lodhrussi::list_marks(&sheet, &mut list)?;
+/// assert_eq!(list, [0, 0, 0, 2, 3, 0, 9, 9, 9]);
+/// # Ok::<(), lodhrussi::Refusal>(())
+/// ```
 pub fn list_marks(sheet: &[u8], list: &mut [u8]) -> Result<(), Refusal> {
     let mut place = 0;
     // SAFETY: pointers and lengths are those of `sheet`, which is only read,

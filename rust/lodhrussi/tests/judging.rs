@@ -57,6 +57,11 @@ fn worked_sheets() {
 }
 
 #[test]
+fn claims_alike() {
+    suites::judged_claims(&Product);
+}
+
+#[test]
 fn small_sheets() {
     let tally = suites::small_dominoes(&Product);
     report("sheets with c + L up to 7", &tally);

@@ -41,6 +41,17 @@ fn worked_sheets() {
 }
 
 #[test]
+fn claims_alike() {
+    suites::listed_claims(&Product);
+}
+
+#[test]
+fn repeating_sheets() {
+    let tally = suites::repeating_reading(&Product);
+    report("reading, sheets that repeat claims", &tally);
+}
+
+#[test]
 fn made_up_sheets() {
     let tally = suites::made_up_reading(&Product);
     report("reading, made-up sheets", &tally);

@@ -1,6 +1,7 @@
 //! The flattened knowledge base as trees, by document 01's list of rules.
 
 use crate::fault::Refusal;
+use crate::sharing::Sharing;
 use crate::written::{Axiom, Concept, Role, Written};
 use std::collections::VecDeque;
 use std::rc::Rc;
@@ -87,10 +88,24 @@ pub struct FlatKb {
 ///
 /// The refusals of [`read`](crate::read).
 pub fn flatten(sheet: &[u8]) -> Result<FlatKb, Refusal> {
-    let counts = crate::read(sheet)?;
+    flatten_by(sheet, Sharing::ByClaim)
+}
+
+/// Reads and flattens a sheet with a part for each occurrence.
+///
+/// # Errors
+///
+/// The refusals of [`apart::read`](crate::apart::read).
+pub fn flatten_apart(sheet: &[u8]) -> Result<FlatKb, Refusal> {
+    flatten_by(sheet, Sharing::Apart)
+}
+
+fn flatten_by(sheet: &[u8], sharing: Sharing) -> Result<FlatKb, Refusal> {
+    let counts = crate::read_by(sheet, sharing)?;
     let written = Written::read(sheet)?;
     let names = counts.traits as usize;
     let mut flattening = Flattening {
+        sharing,
         parts: vec![Part::Name; names],
         waiting: written.axioms.iter().map(Waiting::written).collect(),
     };
@@ -125,6 +140,7 @@ impl Waiting {
 }
 
 struct Flattening {
+    sharing: Sharing,
     parts: Vec<Part>,
     waiting: VecDeque<Waiting>,
 }
@@ -158,31 +174,42 @@ impl Flattening {
         }
     }
 
-    /// Gives a restriction the next part, and its filler the one after where
-    /// that needs a fresh name.
+    /// The part of a restriction: one that it shares, else the next, and the
+    /// one after for its filler where that needs a fresh name.
     fn restriction(
         &mut self,
         part: fn(Restriction) -> Part,
         role: &Rc<Role>,
         filler: &Rc<Normal>,
     ) -> Formula {
-        let number = self.parts.len();
+        let next = self.parts.len();
         let (filler, fresh) = match **filler {
             Normal::Top => (Filler::Top, None),
             Normal::Bottom => (Filler::Bottom, None),
             Normal::Name(name) => (Filler::Part(name), None),
-            _ => (Filler::Part(number + 1), Some(filler)),
+            // No part met so far has this filler.
+            _ => (Filler::Part(next + 1), Some(filler)),
         };
         let role = Rc::clone(role);
-        self.parts.push(part(Restriction { role, filler }));
-        if let Some(concept) = fresh {
-            self.parts.push(Part::Fresh(Rc::clone(concept)));
-            self.waiting.push_back(Waiting {
-                fresh: Some(number + 1),
-                concept: Rc::clone(concept),
-            });
+        let restriction = part(Restriction { role, filler });
+        let met = self.parts.iter().position(|met| *met == restriction);
+        if let (Sharing::ByClaim, Some(met)) = (self.sharing, met) {
+            return Formula::Part(met);
         }
-        Formula::Part(number)
+        self.parts.push(restriction);
+        if let Some(concept) = fresh {
+            self.fresh(concept);
+        }
+        Formula::Part(next)
+    }
+
+    /// Gives a filler the next part, as a fresh name.
+    fn fresh(&mut self, filler: &Rc<Normal>) {
+        self.waiting.push_back(Waiting {
+            fresh: Some(self.parts.len()),
+            concept: Rc::clone(filler),
+        });
+        self.parts.push(Part::Fresh(Rc::clone(filler)));
     }
 }
 

@@ -2,6 +2,7 @@
 
 use crate::fault::{Fault, Refusal};
 use crate::kb::{Kb, Record};
+use crate::sharing::Sharing;
 
 /// The most that parts and roles may come to together.
 const MAX_PARTS_AND_ROLES: usize = 12;
@@ -16,14 +17,34 @@ enum Kind {
     Forall = 3,
 }
 
+/// A filler whose normal form needs no fresh name.
+#[derive(Clone, Copy, PartialEq, Eq)]
+enum Atom {
+    Top,
+    Bottom,
+    Name(u8),
+}
+
+/// What a restriction with such a filler says, after normal form.
+#[derive(Clone, Copy)]
+struct Claim {
+    kind: Kind,
+    /// The number of a record; what counts is how the role is written.
+    role: u8,
+    filler: Atom,
+}
+
 /// A part of the flattened knowledge base (document 01: mark).
 #[derive(Clone, Copy)]
 pub(crate) struct Part {
     kind: Kind,
-    /// A name's number; else the number of the record.
+    /// A name's number; else the number of the record first met.
     number: u8,
-    /// The record is read under an odd number of nots.
+    /// That record is read under an odd number of nots.
     negated: bool,
+    /// What other occurrences may share; none for a name, a fresh name, and a
+    /// restriction whose filler has a fresh name.
+    claim: Option<Claim>,
 }
 
 impl Part {
@@ -32,6 +53,7 @@ impl Part {
             kind: Kind::Name,
             number,
             negated: false,
+            claim: None,
         }
     }
 
@@ -72,9 +94,10 @@ impl Parts {
 }
 
 /// The parts of a knowledge base: its names, then what flattening meets.
-pub(crate) fn flatten(kb: &Kb) -> Result<Parts, Refusal> {
+pub(crate) fn flatten(kb: &Kb, sharing: Sharing) -> Result<Parts, Refusal> {
     let mut flattener = Flattener {
         kb,
+        sharing,
         parts: Parts::beside_roles(kb.roles()),
     };
     flattener.run().map_err(Refusal::of_whole)?;
@@ -83,6 +106,7 @@ pub(crate) fn flatten(kb: &Kb) -> Result<Parts, Refusal> {
 
 struct Flattener<'a> {
     kb: &'a Kb,
+    sharing: Sharing,
     parts: Parts,
 }
 
@@ -127,8 +151,8 @@ impl Flattener<'_> {
                 self.plain(c)?;
                 self.plain(d)
             }
-            Record::Exists(filler) => self.restriction(Kind::Exists, concept, filler, false),
-            Record::Forall(filler) => self.restriction(Kind::Forall, concept, filler, false),
+            Record::Exists(u, c) => self.restriction(Kind::Exists, concept, (u, c), false),
+            Record::Forall(u, c) => self.restriction(Kind::Forall, concept, (u, c), false),
             _ => Ok(()),
         }
     }
@@ -141,42 +165,62 @@ impl Flattener<'_> {
                 self.negated(c)?;
                 self.negated(d)
             }
-            Record::Exists(filler) => self.restriction(Kind::Forall, concept, filler, true),
-            Record::Forall(filler) => self.restriction(Kind::Exists, concept, filler, true),
+            Record::Exists(u, c) => self.restriction(Kind::Forall, concept, (u, c), true),
+            Record::Forall(u, c) => self.restriction(Kind::Exists, concept, (u, c), true),
             _ => Ok(()),
         }
     }
 
-    /// Adds a restriction, and a fresh name for its filler where it needs one.
+    /// Adds a restriction, and a fresh name for its filler where it needs one,
+    /// unless it shares a part that is there.
     fn restriction(
         &mut self,
         kind: Kind,
         concept: u8,
-        filler: u8,
+        (role, filler): (u8, u8),
         negated: bool,
     ) -> Result<(), Fault> {
+        let atom = self.atom(filler, negated);
+        let claim = atom.map(|filler| Claim { kind, role, filler });
+        if claim.is_some_and(|claim| self.is_shared(claim)) {
+            return Ok(());
+        }
         self.parts.push(Part {
             kind,
             number: concept,
             negated,
+            claim,
         })?;
-        if self.is_simple(filler, negated) {
+        if claim.is_some() {
             return Ok(());
         }
         self.parts.push(Part {
             kind: Kind::Fresh,
             number: filler,
             negated,
+            claim: None,
         })
     }
 
-    /// The normal form is a concept name, everything or nothing.
-    fn is_simple(&self, concept: u8, negated: bool) -> bool {
-        match self.kb.record(concept) {
-            Record::Top | Record::Bottom => true,
-            Record::Name => !negated,
-            Record::Not(c) => self.is_simple(c, !negated),
-            _ => false,
+    /// Whether a part that was met makes the same claim.
+    fn is_shared(&self, claim: Claim) -> bool {
+        let is_same = |met: Claim| {
+            met.kind == claim.kind
+                && met.filler == claim.filler
+                && self.kb.are_alike(met.role, claim.role)
+        };
+        let mut claims = self.parts.as_slice().iter().filter_map(|part| part.claim);
+        self.sharing == Sharing::ByClaim && claims.any(is_same)
+    }
+
+    /// The normal form, if it is a concept name, everything or nothing.
+    fn atom(&self, concept: u8, negated: bool) -> Option<Atom> {
+        match (self.kb.record(concept), negated) {
+            (Record::Top, false) | (Record::Bottom, true) => Some(Atom::Top),
+            (Record::Bottom, false) | (Record::Top, true) => Some(Atom::Bottom),
+            (Record::Name(number), false) => Some(Atom::Name(number)),
+            (Record::Not(c), _) => self.atom(c, !negated),
+            _ => None,
         }
     }
 }

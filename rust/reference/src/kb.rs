@@ -6,24 +6,24 @@ const MAX_RECORDS: usize = 255;
 const MAX_NAMES: u8 = 12;
 const MAX_ROLES: u8 = 4;
 
-/// One record, as far as flattening needs it. References are record numbers.
-#[derive(Clone, Copy)]
+/// One record. References are record numbers.
+#[derive(Clone, Copy, PartialEq, Eq)]
 pub(crate) enum Record {
     Top,
     Bottom,
-    Name,
+    Name(u8),
     Not(u8),
     And(u8, u8),
     Or(u8, u8),
-    /// An existential restriction, with its filler.
-    Exists(u8),
-    /// A universal restriction, with its filler.
-    Forall(u8),
-    /// A role name or its inverse.
-    AtomicRole,
-    BooleanRole {
-        holds_on_empty: bool,
-    },
+    /// An existential restriction: its role and its filler.
+    Exists(u8, u8),
+    /// A universal restriction: its role and its filler.
+    Forall(u8, u8),
+    Role(u8),
+    Inverse(u8),
+    RoleNot(u8),
+    RoleAnd(u8, u8),
+    RoleOr(u8, u8),
     /// Every first is second.
     Axiom(u8, u8),
 }
@@ -38,7 +38,8 @@ enum Sort {
 impl Record {
     fn sort(self) -> Sort {
         match self {
-            Record::AtomicRole | Record::BooleanRole { .. } => Sort::Role,
+            Record::Role(_) | Record::Inverse(_) => Sort::Role,
+            Record::RoleNot(_) | Record::RoleAnd(..) | Record::RoleOr(..) => Sort::Role,
             Record::Axiom(..) => Sort::Axiom,
             _ => Sort::Concept,
         }
@@ -48,17 +49,7 @@ impl Record {
     fn is_shared(self) -> bool {
         matches!(
             self,
-            Record::Top | Record::Bottom | Record::Name | Record::AtomicRole
-        )
-    }
-
-    /// Holds, as a role, on the empty role set.
-    fn holds_on_empty(self) -> bool {
-        matches!(
-            self,
-            Record::BooleanRole {
-                holds_on_empty: true
-            }
+            Record::Top | Record::Bottom | Record::Name(_) | Record::Role(_) | Record::Inverse(_)
         )
     }
 }
@@ -80,6 +71,8 @@ const UNREAD: Entry = Entry {
 pub(crate) struct Kb {
     /// One entry for each byte value, so that a reference is always in range.
     entries: [Entry; 256],
+    /// The roles that hold on the empty role set.
+    hold_on_empty: [bool; 256],
     len: usize,
     names: u8,
     roles: u8,
@@ -89,6 +82,7 @@ impl Kb {
     pub(crate) fn empty() -> Self {
         Kb {
             entries: [UNREAD; 256],
+            hold_on_empty: [false; 256],
             len: 0,
             names: 0,
             roles: 0,
@@ -121,6 +115,19 @@ impl Kb {
         self.entries[usize::from(number)].record
     }
 
+    /// Whether two roles are written alike: the same tree, whatever the records.
+    pub(crate) fn are_alike(&self, u: u8, v: u8) -> bool {
+        match (self.record(u), self.record(v)) {
+            (Record::RoleNot(u), Record::RoleNot(v)) => self.are_alike(u, v),
+            (Record::RoleAnd(u, more_u), Record::RoleAnd(v, more_v))
+            | (Record::RoleOr(u, more_u), Record::RoleOr(v, more_v)) => {
+                self.are_alike(u, v) && self.are_alike(more_u, more_v)
+            }
+            // Leaves, or roles of different kinds.
+            (u, v) => u == v,
+        }
+    }
+
     /// The two sides of each axiom, in the sheet's order.
     pub(crate) fn axioms(&self) -> impl Iterator<Item = (u8, u8)> + '_ {
         self.entries[..self.len]
@@ -142,90 +149,96 @@ impl Kb {
         Ok(rest)
     }
 
+    /// The record of a kind, its body taken from `body`; answers also what
+    /// follows the body.
     fn decode<'a>(&mut self, kind: u8, body: &'a [u8]) -> Result<(Record, &'a [u8]), Fault> {
-        use Sort::{Concept, Role};
-        Ok(match kind {
-            0x01 => (Record::Top, body),
-            0x02 => (Record::Bottom, body),
-            0x03 => {
-                let (number, rest) = number(body, MAX_NAMES)?;
-                self.names = self.names.max(number + 1);
-                (Record::Name, rest)
-            }
-            0x04 => {
-                let (c, rest) = self.reference(body, Concept)?;
-                (Record::Not(c), rest)
-            }
-            0x05 => {
-                let ((c, d), rest) = self.references(body, Concept, Concept)?;
-                (Record::And(c, d), rest)
-            }
-            0x06 => {
-                let ((c, d), rest) = self.references(body, Concept, Concept)?;
-                (Record::Or(c, d), rest)
-            }
-            0x07 => {
-                let (filler, rest) = self.restriction(body)?;
-                (Record::Exists(filler), rest)
-            }
-            0x08 => {
-                let (filler, rest) = self.restriction(body)?;
-                (Record::Forall(filler), rest)
-            }
-            0x10 | 0x11 => {
-                let (number, rest) = number(body, MAX_ROLES)?;
-                self.roles = self.roles.max(number + 1);
-                (Record::AtomicRole, rest)
-            }
-            0x12 => {
-                let (u, rest) = self.reference(body, Role)?;
-                (boolean_role(!self.holds_on_empty(u)), rest)
-            }
-            0x13 => {
-                let ((u, v), rest) = self.references(body, Role, Role)?;
-                let both = self.holds_on_empty(u) && self.holds_on_empty(v);
-                (boolean_role(both), rest)
-            }
-            0x14 => {
-                let ((u, v), rest) = self.references(body, Role, Role)?;
-                let either = self.holds_on_empty(u) || self.holds_on_empty(v);
-                (boolean_role(either), rest)
-            }
-            0x20 => {
-                let ((c, d), rest) = self.references(body, Concept, Concept)?;
-                (Record::Axiom(c, d), rest)
-            }
-            _ => return Err(Fault::UnknownKind),
-        })
+        match kind {
+            0x01 => Ok((Record::Top, body)),
+            0x02 => Ok((Record::Bottom, body)),
+            0x03 => self.name(body),
+            0x04 => self.not(body),
+            0x05 => self.of_concepts(body, Record::And),
+            0x06 => self.of_concepts(body, Record::Or),
+            0x07 => self.restriction(body, Record::Exists),
+            0x08 => self.restriction(body, Record::Forall),
+            0x10 => self.role_name(body, Record::Role),
+            0x11 => self.role_name(body, Record::Inverse),
+            0x12 => self.role_not(body),
+            0x13 => self.boolean_role(body, Record::RoleAnd, |u, v| u && v),
+            0x14 => self.boolean_role(body, Record::RoleOr, |u, v| u || v),
+            0x20 => self.of_concepts(body, Record::Axiom),
+            _ => Err(Fault::UnknownKind),
+        }
     }
 
-    /// A body of one reference.
-    fn reference<'a>(&mut self, body: &'a [u8], sort: Sort) -> Result<(u8, &'a [u8]), Fault> {
-        let (&[target], rest) = take(body)?;
-        self.refer_to(target, sort)?;
-        Ok((target, rest))
+    fn name<'a>(&mut self, body: &'a [u8]) -> Result<(Record, &'a [u8]), Fault> {
+        let (number, rest) = number(body, MAX_NAMES)?;
+        self.names = self.names.max(number + 1);
+        Ok((Record::Name(number), rest))
     }
 
-    /// A body of two references.
-    fn references<'a>(
+    /// A role name or its inverse.
+    fn role_name<'a>(
         &mut self,
         body: &'a [u8],
-        first_sort: Sort,
-        second_sort: Sort,
-    ) -> Result<((u8, u8), &'a [u8]), Fault> {
-        let (&[first, second], rest) = take(body)?;
-        self.refer_to(first, first_sort)?;
-        self.refer_to(second, second_sort)?;
-        Ok(((first, second), rest))
+        record: impl Fn(u8) -> Record,
+    ) -> Result<(Record, &'a [u8]), Fault> {
+        let (number, rest) = number(body, MAX_ROLES)?;
+        self.roles = self.roles.max(number + 1);
+        Ok((record(number), rest))
     }
 
-    /// The body of a restriction, of which the filler is kept.
-    fn restriction<'a>(&mut self, body: &'a [u8]) -> Result<(u8, &'a [u8]), Fault> {
-        let ((role, filler), rest) = self.references(body, Sort::Role, Sort::Concept)?;
+    fn not<'a>(&mut self, body: &'a [u8]) -> Result<(Record, &'a [u8]), Fault> {
+        let (&[c], rest) = take(body)?;
+        self.refer_to(c, Sort::Concept)?;
+        Ok((Record::Not(c), rest))
+    }
+
+    /// A record of two concepts.
+    fn of_concepts<'a>(
+        &mut self,
+        body: &'a [u8],
+        record: impl Fn(u8, u8) -> Record,
+    ) -> Result<(Record, &'a [u8]), Fault> {
+        let (&[c, d], rest) = take(body)?;
+        self.refer_to(c, Sort::Concept)?;
+        self.refer_to(d, Sort::Concept)?;
+        Ok((record(c, d), rest))
+    }
+
+    fn role_not<'a>(&mut self, body: &'a [u8]) -> Result<(Record, &'a [u8]), Fault> {
+        let (&[u], rest) = take(body)?;
+        self.refer_to(u, Sort::Role)?;
+        self.hold_on_empty[self.len] = !self.holds_on_empty(u);
+        Ok((Record::RoleNot(u), rest))
+    }
+
+    /// A role of two, and when it holds.
+    fn boolean_role<'a>(
+        &mut self,
+        body: &'a [u8],
+        record: impl Fn(u8, u8) -> Record,
+        holds: impl Fn(bool, bool) -> bool,
+    ) -> Result<(Record, &'a [u8]), Fault> {
+        let (&[u, v], rest) = take(body)?;
+        self.refer_to(u, Sort::Role)?;
+        self.refer_to(v, Sort::Role)?;
+        self.hold_on_empty[self.len] = holds(self.holds_on_empty(u), self.holds_on_empty(v));
+        Ok((record(u, v), rest))
+    }
+
+    fn restriction<'a>(
+        &mut self,
+        body: &'a [u8],
+        record: impl Fn(u8, u8) -> Record,
+    ) -> Result<(Record, &'a [u8]), Fault> {
+        let (&[role, filler], rest) = take(body)?;
+        self.refer_to(role, Sort::Role)?;
+        self.refer_to(filler, Sort::Concept)?;
         if self.holds_on_empty(role) {
             return Err(Fault::HoldsOnEmptySet);
         }
-        Ok((filler, rest))
+        Ok((record(role, filler), rest))
     }
 
     /// Checks and notes that the record being read names `target`.
@@ -245,13 +258,10 @@ impl Kb {
         Ok(())
     }
 
+    /// Whether a role holds on the empty role set.
     fn holds_on_empty(&self, role: u8) -> bool {
-        self.record(role).holds_on_empty()
+        self.hold_on_empty[usize::from(role)]
     }
-}
-
-fn boolean_role(holds_on_empty: bool) -> Record {
-    Record::BooleanRole { holds_on_empty }
 }
 
 /// The first `N` bytes of a body, and what follows them.

@@ -182,7 +182,11 @@ fn fresh_axioms_wait_for_the_written_ones() {
         [3, 4, 1],
         [2, 2, 0],
     ];
-    assert_marks(&sheet, &marks);
+    // Record 2 shares the part of record 6, which is met before it.
+    assert_marks(&sheet, &marks[..6]);
+    let mut list = [0xAA; 21];
+    assert_eq!(apart::list_marks(&sheet, &mut list), Ok(7));
+    assert_eq!(list, marks.as_flattened());
 }
 
 #[test]
@@ -195,7 +199,30 @@ fn one_leaf_is_the_filler_of_many() {
 
 #[test]
 fn parts_and_roles_come_to_at_most_twelve() {
-    // 11 restrictions beside one role, then 12.
+    // Beside one role so many restrictions, each with two nots more in its role.
+    let with = |restrictions: usize| {
+        let mut sheet = vec![0x01, 0x10, 0x00];
+        let mut next = 2;
+        for turn in 0..restrictions {
+            let mut role = 1;
+            for _ in 0..2 * turn {
+                sheet.extend([0x12, role]);
+                role = next;
+                next += 1;
+            }
+            sheet.extend([0x07, role, 0x00]);
+            sheet.extend([0x20, 0x00, next]);
+            next += 2;
+        }
+        sheet
+    };
+    assert_counts(&with(11), 0, 1, 11);
+    assert_refused(&with(12), 9, 0);
+    assert_refused(&with(14), 9, 0);
+}
+
+#[test]
+fn one_claim_has_one_part_however_often() {
     let with = |restrictions: u8| {
         let mut sheet = vec![0x01, 0x10, 0x00];
         for r in 0..restrictions {
@@ -204,9 +231,18 @@ fn parts_and_roles_come_to_at_most_twelve() {
         }
         sheet
     };
-    assert_counts(&with(11), 0, 1, 11);
-    assert_refused(&with(12), 9, 0);
-    assert_refused(&with(126), 9, 0);
+    let apart = |restrictions| apart::read(&with(restrictions)).map(|counts| counts.marks);
+    let refusal = Refusal {
+        number: 9,
+        place: 0,
+    };
+    for restrictions in [1, 11, 12, 126] {
+        assert_counts(&with(restrictions), 0, 1, 1);
+    }
+    assert_eq!(apart(1), Ok(1));
+    assert_eq!(apart(11), Ok(11));
+    assert_eq!(apart(12), Err(refusal));
+    assert_eq!(apart(126), Err(refusal));
 }
 
 #[test]

@@ -1,4 +1,4 @@
-//! Queues of which documents 01 and 02 give every line.
+//! Queues of which every line is given.
 
 use crate::lines::whole;
 use crate::program::{assert_prints, assert_same, printed_for_chunks, report};
@@ -6,7 +6,7 @@ use comparison::queues::{
     slot, slot_telling, slots, worked_slots, END_KIND, LONGEST, SLOT, SLOT_KIND, WORKED,
 };
 use comparison::random::Random;
-use comparison::worked;
+use comparison::{claims, worked};
 use std::time::Duration;
 
 /// Document 02's queue of S1 and S2, without its end.
@@ -54,6 +54,23 @@ fn the_worked_sheets() {
                     sheets 14 met 5 unmet 3 refused 6 survivors 122\n";
     let comparisons = assert_prints(&queue, expected);
     report("worked sheets", comparisons);
+}
+
+#[test]
+fn sheets_that_repeat_claims() {
+    let rows = claims::judged();
+    let sheets: Vec<_> = rows.iter().map(|row| &row.sheet).collect();
+    let mut queue = slots(&sheets, &mut Random::seeded(45));
+    queue.push(END_KIND);
+    let says: Vec<_> = rows
+        .iter()
+        .map(|row| match row.judgement.survivors {
+            0 => "unmet 0".into(),
+            survivors => format!("met {survivors}"),
+        })
+        .collect();
+    let comparisons = assert_prints(&queue, &whole(&says));
+    report("sheets that repeat claims", comparisons);
 }
 
 #[test]

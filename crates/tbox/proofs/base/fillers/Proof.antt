@@ -1,21 +1,23 @@
 -- The invariant: the fillers of the parts before i.
+use borrow.Author.Needs.{needs}
 use Prim.Native.Nat.{_-_, _≤_}
 use mathlib.Core.Path.{_≡_}
+use mathlib.Core.List.{List}
 use lib.ListN.{getD}
 use native.Mathlib.Omega.{arith}
-use borrow.Author.Needs.{needs}
+use Rattle.tbox.specs.declared.records.Entry.{Entry}
 use Rattle.tbox.specs.Flatten.{Part}
 use Rattle.tbox.specs.Promise.{fillerOf}
-use Rattle.tbox.specs.Tables.{seen, Stands}
+use Rattle.tbox.specs.Tables.{Stands}
 use Rattle.tbox.proofs.Holding.{Filled, filled-none, filled-more}
 use Rattle.tbox.proofs.base.fillers.Statement.{statement}
 use Rattle.tbox.proofs.base.fillers.Tie as tie
 
 abbrev Inv-loop : tie.InvT-loop
-Inv-loop table count parts filler₀ i₀ filler i = (i ≤ 20) × Filled (λ k v. (p : Part) → Stands (seen table count) k (getD parts k 0) p → v ≡ fillerOf p) 20 filler i
+Inv-loop parts filler₀ i₀ filler i = (i ≤ 20) × Filled (λ k v. (es : List Entry) (p : Part) → Stands es k (getD parts k 0) p → v ≡ fillerOf p) 20 filler i
 
 abbrev μ-loop : tie.MeasureT-loop
-μ-loop table count parts filler₀ i₀ filler i = 20 - i
+μ-loop parts filler₀ i₀ filler i = 20 - i
 
 loop-holds : tie.Need-loop-holds Inv-loop μ-loop
 loop-holds c = (omega arith, filled-none _ _ _ (search needs))
@@ -27,7 +29,7 @@ element-copy-out-filler-at : tie.Need-element-copy-out-filler-at Inv-loop μ-loo
 element-copy-out-filler-at c = omega arith
 
 filler-at-requires : tie.Need-filler-at-requires Inv-loop μ-loop
-filler-at-requires c κs = (search needs, omega arith)
+filler-at-requires c κs = omega arith
 
 array-write-filler : tie.Need-array-write-filler Inv-loop μ-loop
 array-write-filler c = omega arith
@@ -42,7 +44,7 @@ loop-again : tie.Need-loop-again Inv-loop μ-loop
 loop-again c = (omega arith, filled-more _ _ _ _ _ (c .before .before .before .loop .inv .1) (omega arith) (c .filler-at .ensures))
 
 returns : tie.Need-returns Inv-loop μ-loop
-returns c = λ i p l h. c .before .loop .inv .1 .each i (omega arith) p h
+returns c = λ es i p l h. c .before .loop .inv .1 .each i (omega arith) es p h
 
 pub fillers-spec : {M : Type 1} → statement M
 fillers-spec =

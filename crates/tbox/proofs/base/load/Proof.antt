@@ -23,24 +23,21 @@ fillers-requires c κs = search needs
 
 role-words-requires : tie.Need-role-words-requires
 role-words-requires c κs =
-    let admit = c .before .before .before .before .before .before .before .before .before .admit in
-    let if1 = c .before .before .before .before .before .before .before .if1 in
+    let admit = c .before .before .before .before .before .before .before .before .admit in
+    let if1 = c .before .before .before .before .before .before .if1 in
     (admit .ensures .records, omega (arith, admit .ensures .small (if1 .left)))
 
 good-words-requires : tie.Need-good-words-requires
 good-words-requires c κs =
-    let admit = c .before .before .before .before .before .before .before .before .before .before .before .before .admit in
-    let if1 = c .before .before .before .before .before .before .before .before .before .before .if1 in
+    let admit = c .before .before .before .before .before .before .before .before .before .before .before .admit in
+    let if1 = c .before .before .before .before .before .before .before .before .before .if1 in
     (admit .ensures .records, omega (arith, admit .ensures .small (if1 .left)), count-is _ _ _ _ _ (admit .ensures) (if1 .left), stood _ _ _ _ _ (admit .ensures) (if1 .left))
 
 returns-2 : tie.Need-returns-2
 returns-2 c =
-    let admit = c .before .before .before .before .before .before .before .before .before .before .before .before .before .admit in
-    let if1 = c .before .before .before .before .before .before .before .before .before .before .before .if1 in
-    let kinds = c .before .before .before .before .before .before .before .before .before .kinds in
-    let fillers = c .before .before .before .before .before .before .fillers in
-    let role-words = c .before .before .before .role-words in
-    loads-whole _ _ _ _ (admit .ensures) (if1 .left) _ _ _ _ (kinds .ensures) (fillers .ensures) (role-words .ensures) (c .good-words .ensures)
+    let admit = c .before .before .before .before .before .before .before .before .before .before .before .before .admit in
+    let if1 = c .before .before .before .before .before .before .before .before .before .before .if1 in
+    loads-whole _ _ _ _ (admit .ensures) (if1 .left) _ _ _ _ (c .before .before .before .before .before .before .before .before .kinds .ensures) (c .before .before .before .before .before .before .fillers .ensures _) (c .before .before .before .role-words .ensures) (c .good-words .ensures)
 
 pub load-spec : {M : Type 1} → statement M
 load-spec =

@@ -2,9 +2,8 @@
 use Prim.Native.Nat.{ℕ, _<_}
 use mathlib.Core.Bool.{true, false}
 use native.Mathlib.Omega.{arith}
-use borrow.Author.Needs.{needs}
 use Rattle.tbox.proofs.Holding.{adds-same}
-use Rattle.tbox.proofs.Atoms.{nf-not, nf-exists, nf-forall, adds-past, adds-two, adds-exists, adds-forall, adds-leaf}
+use Rattle.tbox.proofs.Atoms.{atom-low, nf-not, nf-exists, nf-forall, adds-past, adds-two, adds-exists, adds-forall, adds-leaf}
 use borrow.Fn.Kinds.{In}
 use borrow.Fn.PlainCycle.{Measures, is, falls, and}
 use Rattle.tbox.proofs.parts.negated_parts.Reads as negated-parts
@@ -87,13 +86,13 @@ negated-parts-negated-atom-requires : (t : ℕ) → negated-parts-lts.Need-negat
 negated-parts-negated-atom-requires t c κs = c .before .before .before .pre .1 .0
 
 negated-parts-meet-requires : (t : ℕ) → negated-parts-lts.Need-meet-requires (negated-parts-calls t) (negated-parts-at t) negated-parts.Post
-negated-parts-meet-requires t c κs = search needs
+negated-parts-meet-requires t c κs = (c .before .before .before .before .before .pre .1 .0, c .before .before .before .before .before .pre .1 .1, omega arith, omega arith, omega arith, atom-low (c .before .negated-atom .ensures))
 
 negated-parts-negated-atom-requires-2 : (t : ℕ) → negated-parts-lts.Need-negated-atom-requires-2 (negated-parts-calls t) (negated-parts-at t) negated-parts.Post
 negated-parts-negated-atom-requires-2 t c κs = c .before .before .before .pre .1 .0
 
 negated-parts-meet-requires-2 : (t : ℕ) → negated-parts-lts.Need-meet-requires-2 (negated-parts-calls t) (negated-parts-at t) negated-parts.Post
-negated-parts-meet-requires-2 t c κs = search needs
+negated-parts-meet-requires-2 t c κs = (c .before .before .before .before .before .pre .1 .0, c .before .before .before .before .before .pre .1 .1, omega arith, omega arith, omega arith, atom-low (c .before .negated-atom2 .ensures))
 
 negated-parts-negated-parts-requires : (t : ℕ) → negated-parts-lts.Need-negated-parts-requires (negated-parts-calls t) (negated-parts-at t) negated-parts.Post
 negated-parts-negated-parts-requires t c κs = (omega arith, c .before .before .before .before .before .before .pre .1)
@@ -142,13 +141,13 @@ plain-parts-plain-atom-requires : (t : ℕ) → plain-parts-lts.Need-plain-atom-
 plain-parts-plain-atom-requires t c κs = c .before .before .before .pre .1 .0
 
 plain-parts-meet-requires : (t : ℕ) → plain-parts-lts.Need-meet-requires (plain-parts-calls t) (plain-parts-at t) plain-parts.Post
-plain-parts-meet-requires t c κs = search needs
+plain-parts-meet-requires t c κs = (c .before .before .before .before .before .pre .1 .0, c .before .before .before .before .before .pre .1 .1, omega arith, omega arith, omega arith, atom-low (c .before .plain-atom .ensures))
 
 plain-parts-plain-atom-requires-2 : (t : ℕ) → plain-parts-lts.Need-plain-atom-requires-2 (plain-parts-calls t) (plain-parts-at t) plain-parts.Post
 plain-parts-plain-atom-requires-2 t c κs = c .before .before .before .pre .1 .0
 
 plain-parts-meet-requires-2 : (t : ℕ) → plain-parts-lts.Need-meet-requires-2 (plain-parts-calls t) (plain-parts-at t) plain-parts.Post
-plain-parts-meet-requires-2 t c κs = search needs
+plain-parts-meet-requires-2 t c κs = (c .before .before .before .before .before .pre .1 .0, c .before .before .before .before .before .pre .1 .1, omega arith, omega arith, omega arith, atom-low (c .before .plain-atom2 .ensures))
 
 plain-parts-plain-parts-requires : (t : ℕ) → plain-parts-lts.Need-plain-parts-requires (plain-parts-calls t) (plain-parts-at t) plain-parts.Post
 plain-parts-plain-parts-requires t c κs = (omega arith, c .before .before .before .before .before .before .pre .1)
