@@ -21,7 +21,7 @@ use Rattle.tbox.specs.Shapes.{shapeOf, isLeaf, isRestriction}
 use Rattle.tbox.specs.Scan.{scanSheet, scan, recordFault, recordAfter, after, namesAfter, rolesAfter, bodyFault, numberFault, referenceFault, emptyFault, vacuousOf, name}
 use Rattle.tbox.specs.Concepts.{nodesOf, nodesFrom, nodeOf, axiomsOf, axiomOf}
 use Rattle.tbox.specs.Normal.{plain, negated, axiomNf}
-use Rattle.tbox.specs.Flatten.{flattenBy, runBy, walkPendingBy, walkBy, meetOne, placed, separate, shared, findFrom, alike, likeExists, likeForall, sameRole, sameFiller, sameAtom, yesNo, atom, restrictions, weight, weights, nameParts, pendings}
+use Rattle.tbox.specs.Flatten.{flattenBy, runBy, walkPendingBy, walkBy, meetOne, placed, shared, findFrom, alike, likeExists, likeForall, sameRole, sameFiller, sameAtom, yesNo, atom, restrictions, weight, weights, nameParts, pendings}
 use Rattle.tbox.specs.Truth.{eval, kbOn, roleOn}
 use Rattle.tbox.specs.Promise.{kindOf, roleHolds}
 use Rattle.tbox.specs.Reading.{Kb, Reading, refusal, kb, readKb, reading, admit}
@@ -61,7 +61,7 @@ abbrev computed : Row → Row
 computed r = readRow (readKb limit (r .sheet)) (r .sheet) (readSays (readKb limit (r .sheet))) (r .lent)
 
 both-computed : (map computed table ≡ table) × (map tried strikes ≡ strikes)
-unfolding readSays strikeSays strikeLeaves openLeaves verdictOf verdictNumbers cleared readKb reading admit flattenBy runBy walkPendingBy walkBy meetOne placed separate shared findFrom alike likeExists likeForall sameRole sameFiller sameAtom yesNo ℕ-discrete atom restrictions weight weights nameParts pendings plain negated axiomNf nodesOf nodesFrom nodeOf axiomsOf axiomOf scanSheet scan recordFault recordAfter after namesAfter rolesAfter bodyFault numberFault referenceFault emptyFault vacuousOf name shapeOf isLeaf isRestriction eval kbOn roleOn kindOf roleHolds number leftOf rolesOf rightOf inverse numbered good ex uni witness delex deluni sym firstFailing condition defect initially sustained initial lacks defectAt fillerIn hasFiller word wordAt wordsFrom size every some
+unfolding readSays strikeSays strikeLeaves openLeaves verdictOf verdictNumbers cleared readKb reading admit flattenBy runBy walkPendingBy walkBy meetOne placed shared findFrom alike likeExists likeForall sameRole sameFiller sameAtom yesNo ℕ-discrete atom restrictions weight weights nameParts pendings plain negated axiomNf nodesOf nodesFrom nodeOf axiomsOf axiomOf scanSheet scan recordFault recordAfter after namesAfter rolesAfter bodyFault numberFault referenceFault emptyFault vacuousOf name shapeOf isLeaf isRestriction eval kbOn roleOn kindOf roleHolds number leftOf rolesOf rightOf inverse numbered good ex uni witness delex deluni sym firstFailing condition defect initially sustained initial lacks defectAt fillerIn hasFiller word wordAt wordsFrom size every some
 both-computed = (refl, refl)
 
 -- ---- the definitions' answers are those

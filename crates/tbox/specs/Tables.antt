@@ -1,4 +1,4 @@
--- The code's tables read as the definitions: records as words of 32 bits, parts as words of 16, sets of numbers as words of 64.
+-- The code's tables read as the definitions: records and parts as words of 32 bits, sets of numbers as words of 64.
 use Prim.Native.Nat.{ℕ, suc, _+_, _*_, _/_, _%_, _≤_, _<_, min}
 use mathlib.Core.Path.{_≡_}
 use mathlib.Core.Bool.{Bool, true, false, cond}
