@@ -12,7 +12,7 @@
  * Results. Every call returns the number of its refusal, 0 for done.
  *   *place is written on a refusal and only then: the byte where the offending record starts for 1 to 8, and 0 otherwise.
  *   The other numbers (*traits, *size, *verdict, ..) are written when done and only then; *condition only when struck.
- *   A refusal writes nothing to a list or a set, save 13, which leaves the set settled.
+ *   A refusal writes nothing to a list or a set.
  *
  * Refusals. A sheet is read record by record and the first fault is reported; inside a record in this order:
  *    3  a 256th record begins
@@ -31,7 +31,7 @@
  *   10  set too short: fewer words than needed (below)
  *   11  number not below 2^(2c+2L)
  *   12  list shorter than 3c bytes
- *   13  a survivor whose right mark set begins no survivor; no sheet brings it about
+ *   13  withdrawn: no call answers it
  *
  * Sets. Pairing number A * 2^(2L+c) + R * 2^c + B has left mark set A, link set R and right mark set B. A set of pairings is a list
  * of 64-bit words; pairing n is bit n mod 64 of word n / 64. Words needed: 2^(2c+2L) / 64, but at least 1: 1 for c + L up to 3,
@@ -100,7 +100,7 @@ uint64_t lodhrussi_settle(const uint8_t *sheet, size_t n, uint64_t *set, size_t 
  * Judge. Opens and settles: leaves the survivors, whatever the set was before. Answers the opening size, the survivor count, and
  * met (1) or unmet (0): whether there is a survivor. Every finite plant of at least one item that keeps the sheet has all its
  * pairings among the survivors, so no plant keeps a sheet that is unmet.
- * Refuses: as read does, then 10, then 13.
+ * Refuses: as read does, then 10.
  */
 uint64_t lodhrussi_judge(const uint8_t *sheet, size_t n, uint64_t *set, size_t words, uint64_t *place, uint64_t *opening,
                          uint64_t *survivors, uint64_t *met);

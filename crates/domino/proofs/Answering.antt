@@ -146,20 +146,11 @@ module _ (sheet : List ℕ) (r : Loaded) (l : Loads sheet r) (z : r .fault ≡ 0
         judged : JudgesSet (kbView k) ws vs x
         judged = judges-agree _ (kbView k) agrees o
 
-        pub judge-stranded : x .stranded ≡ true → Judges (readKb limit sheet) ws vs (NotJudged 13 0)
+        pub judge-whole : Judges (readKb limit sheet) ws vs (Judged (x .opening) (x .survivors) (not (eqb (x .survivors) 0)))
         unfolding judgeNumbers judgeSays judgeLeaves
-        judge-stranded e =
-            as-read (λ s. Judges s ws vs (NotJudged 13 0)) (record {
-              answer = rw (not-short h, ← judged .stranded, e);
-              set = rw (not-short h) (judged .set);
-            })
-
-        pub judge-whole : x .stranded ≡ false
-            → Judges (readKb limit sheet) ws vs (Judged (x .opening) (x .survivors) (not (eqb (x .survivors) 0)))
-        unfolding judgeNumbers judgeSays judgeLeaves
-        judge-whole e =
+        judge-whole =
             as-read (λ s. Judges s ws vs (Judged (x .opening) (x .survivors) (not (eqb (x .survivors) 0)))) (record {
-              answer = rw (not-short h, ← judged .stranded, e)
+              answer = rw (not-short h)
                   (ap (λ (y : ℕ). 0 ∷ 0 ∷ x .opening ∷ x .survivors ∷ y ∷ []) (turned (eqb (x .survivors) 0))
                   ∙ ap₂ (λ (y u : ℕ). 0 ∷ 0 ∷ y ∷ u ∷ cond (eqb u 0) 0 1 ∷ []) (judged .opening) (judged .survivors));
               set = rw (not-short h) (judged .set);

@@ -22,9 +22,9 @@ use Rattle.tbox.proofs.Promised.{refusal-cases, refusal-number, refusal-place}
 use Rattle.semantics.specs.Conditions.{View, dominoes, initial, defective, canon}
 use Rattle.semantics.specs.Views.{kbView}
 use Rattle.semantics.proofs.Defects.{defective-monotone}
-use Rattle.domino.specs.Answers.{held, isShort, verdictNumbers, verdictOf, strands, openSays, openLeaves, strikeSays, strikeLeaves, settleSays, settleLeaves, judgeSays, judgeLeaves}
+use Rattle.domino.specs.Answers.{held, isShort, verdictNumbers, verdictOf, openSays, openLeaves, strikeSays, strikeLeaves, settleSays, settleLeaves, judgeSays, judgeLeaves}
 use Rattle.domino.specs.Demanded.{refusalOf, placeOf, Refuses, Demand1, Demand1Done}
-use Rattle.domino.proofs.Saying.{held-room, held-some, written-long, written-look, written-past, open-says, open-leaves, strike-says, strike-beyond, settle-says, settle-leaves, judge-says, judge-stranded, judge-leaves, strike-long}
+use Rattle.domino.proofs.Saying.{held-room, held-some, written-long, written-look, written-past, open-says, open-leaves, strike-says, strike-beyond, settle-says, settle-leaves, judge-says, judge-leaves, strike-long}
 
 -- ---- the words past those needed
 
@@ -39,11 +39,11 @@ drop-strike k N defective n ws r = go (ltb n N) refl (look ws n && defective (lo
     go true q false = refl
     go false q b = refl
 
--- ---- the cases of a call
+-- ---- the cases of a call, whose refusals go up to `last`
 
-module _ (sheet ws : List ℕ) where
+module _ (last : ℕ) (ten : 10 ≤ last) (sheet ws : List ℕ) where
   -- the sheet is refused
-  from-refusal : (n p : ℕ) → readKb limit sheet ≡ refusal n p → Refuses sheet ws (n ∷ p ∷ []) ws
+  from-refusal : (n p : ℕ) → readKb limit sheet ≡ refusal n p → Refuses last sheet ws (n ∷ p ∷ []) ws
   from-refusal n p e =
       record {
         read = λ m q f.
@@ -54,30 +54,32 @@ module _ (sheet ws : List ℕ) where
         short = λ k f l. let z : _≡_ {A = ℕ} 0 1 = cc in absurd (omega arith);
         inside = λ a b. refusal-place limit sheet e b;
         nowhere = λ a. ⊎-elim (λ f. absurd (omega (arith, f .1))) (λ f. f .1) (refusal-cases limit sheet e);
-        untouched = λ a b. refl;
+        among = omega (arith, ten, refusal-number limit sheet e);
+        untouched = λ a. refl;
         long = refl;
         past = λ k f. refl;
       }
 
   module _ (k : Kb) (e : readKb limit sheet ≡ kb k) where
     -- the words are too few
-    from-short : Refuses sheet ws (10 ∷ 0 ∷ []) ws
+    from-short : Refuses last sheet ws (10 ∷ 0 ∷ []) ws
     from-short =
         record {
           read = λ n p f. let z : _≡_ {A = ℕ} 0 1 = cc in absurd (omega arith);
           short = λ j f l. refl;
           inside = λ a b. absurd (omega arith);
           nowhere = λ a. refl;
-          untouched = λ a b. refl;
+          among = ten;
+          untouched = λ a. refl;
           long = refl;
           past = λ j f. refl;
         }
 
     -- they are enough
     from-enough : (says after : List ℕ) → held (kbView k) ≤ length ws → placeOf says ≡ 0
-        → (1 ≤ refusalOf says → refusalOf says ≤ 8 → ⊥) → ((refusalOf says ≡ 0 → ⊥) → (refusalOf says ≡ 13 → ⊥) → after ≡ ws)
-        → length after ≡ length ws → drop (held (kbView k)) after ≡ drop (held (kbView k)) ws → Refuses sheet ws says after
-    from-enough says after h place number same long past =
+        → (1 ≤ refusalOf says → refusalOf says ≤ 8 → ⊥) → refusalOf says ≤ last → ((refusalOf says ≡ 0 → ⊥) → after ≡ ws)
+        → length after ≡ length ws → drop (held (kbView k)) after ≡ drop (held (kbView k)) ws → Refuses last sheet ws says after
+    from-enough says after h place number among same long past =
         record {
           read = λ n p f. let z : _≡_ {A = ℕ} 0 1 = cc in absurd (omega arith);
           short = λ j f l.
@@ -86,6 +88,7 @@ module _ (sheet ws : List ℕ) where
               absurd (omega arith);
           inside = λ a b. absurd (number a b);
           nowhere = λ a. place;
+          among = among;
           untouched = same;
           long = long;
           past = λ j f. let i : k ≡ j = cc in subst (λ (x : Kb). drop (held (kbView x)) after ≡ drop (held (kbView x)) ws) i past;
@@ -93,11 +96,11 @@ module _ (sheet ws : List ℕ) where
 
     -- an answer that is no refusal
     from-done : (says after : List ℕ) → held (kbView k) ≤ length ws
-        → length after ≡ length ws → drop (held (kbView k)) after ≡ drop (held (kbView k)) ws → Refuses sheet ws (0 ∷ 0 ∷ says) after
-    from-done says after h = from-enough (0 ∷ 0 ∷ says) after h refl (λ a b. omega arith) (λ a b. absurd (a refl))
+        → length after ≡ length ws → drop (held (kbView k)) after ≡ drop (held (kbView k)) ws → Refuses last sheet ws (0 ∷ 0 ∷ says) after
+    from-done says after h = from-enough (0 ∷ 0 ∷ says) after h refl (λ a b. omega arith) (omega arith) (λ a. absurd (a refl))
 
     written-done : (says : List ℕ) (D : Set) → held (kbView k) ≤ length ws
-        → Refuses sheet ws (0 ∷ 0 ∷ says) (written (held (kbView k)) (dominoes (kbView k)) D ws)
+        → Refuses last sheet ws (0 ∷ 0 ∷ says) (written (held (kbView k)) (dominoes (kbView k)) D ws)
     written-done says D h =
         from-done says (written (held (kbView k)) (dominoes (kbView k)) D ws) h
         (written-long (held (kbView k)) (dominoes (kbView k)) D ws h) (written-past (held (kbView k)) (dominoes (kbView k)) D ws)
@@ -105,70 +108,65 @@ module _ (sheet ws : List ℕ) where
 -- ---- the calls
 
 module _ (sheet ws : List ℕ) where
-  open-refuses : (s : Reading) → readKb limit sheet ≡ s → Refuses sheet ws (openSays s ws) (openLeaves s ws)
+  open-refuses : (s : Reading) → readKb limit sheet ≡ s → Refuses 10 sheet ws (openSays s ws) (openLeaves s ws)
   unfolding openSays openLeaves
-  open-refuses (refusal n p) e = from-refusal sheet ws n p e
+  open-refuses (refusal n p) e = from-refusal 10 (omega arith) sheet ws n p e
   open-refuses (kb k) e = go (isShort k ws) refl
     where
       go : (b : Bool) → isShort k ws ≡ b
-          → Refuses sheet ws (cond b (10 ∷ 0 ∷ []) (0 ∷ 0 ∷ size (dominoes (kbView k)) (initial (kbView k)) ∷ []))
+          → Refuses 10 sheet ws (cond b (10 ∷ 0 ∷ []) (0 ∷ 0 ∷ size (dominoes (kbView k)) (initial (kbView k)) ∷ []))
           (cond b ws (written (held (kbView k)) (dominoes (kbView k)) (initial (kbView k)) ws))
-      go true q = from-short sheet ws k e
-      go false q = written-done sheet ws k e _ (initial (kbView k)) (ltb-false (length ws) (held (kbView k)) q)
+      go true q = from-short 10 (omega arith) sheet ws k e
+      go false q = written-done 10 (omega arith) sheet ws k e _ (initial (kbView k)) (ltb-false (length ws) (held (kbView k)) q)
 
-  strike-refuses : (n : ℕ) (s : Reading) → readKb limit sheet ≡ s → Refuses sheet ws (strikeSays s n ws) (strikeLeaves s n ws)
+  strike-refuses : (n : ℕ) (s : Reading) → readKb limit sheet ≡ s → Refuses 11 sheet ws (strikeSays s n ws) (strikeLeaves s n ws)
   unfolding strikeSays strikeLeaves
-  strike-refuses n (refusal m p) e = from-refusal sheet ws m p e
+  strike-refuses n (refusal m p) e = from-refusal 11 (omega arith) sheet ws m p e
   strike-refuses n (kb k) e = go (isShort k ws) refl (ltb n (dominoes (kbView k))) refl
     where
       go : (b : Bool) → isShort k ws ≡ b → (d : Bool) → ltb n (dominoes (kbView k)) ≡ d
-          → Refuses sheet ws (cond b (10 ∷ 0 ∷ []) (cond d (0 ∷ 0 ∷ n ∷ verdictNumbers (verdictOf (kbView k) (look ws) n)) (11 ∷ 0 ∷ [])))
+          → Refuses 11 sheet ws (cond b (10 ∷ 0 ∷ []) (cond d (0 ∷ 0 ∷ n ∷ verdictNumbers (verdictOf (kbView k) (look ws) n)) (11 ∷ 0 ∷ [])))
           (cond b ws (strikeWords (dominoes (kbView k)) (defective (kbView k)) n ws))
-      go true q d r = from-short sheet ws k e
+      go true q d r = from-short 11 (omega arith) sheet ws k e
       go false q true r =
-          from-done sheet ws k e _ (strikeWords (dominoes (kbView k)) (defective (kbView k)) n ws) (ltb-false (length ws) (held (kbView k)) q)
+          from-done 11 (omega arith) sheet ws k e _ (strikeWords (dominoes (kbView k)) (defective (kbView k)) n ws)
+          (ltb-false (length ws) (held (kbView k)) q)
           (strike-long (dominoes (kbView k)) (defective (kbView k)) n ws)
           (drop-strike (held (kbView k)) (dominoes (kbView k)) (defective (kbView k)) n ws (held-room (kbView k)))
       go false q false r =
-          from-enough sheet ws k e (11 ∷ 0 ∷ []) (strikeWords (dominoes (kbView k)) (defective (kbView k)) n ws)
-          (ltb-false (length ws) (held (kbView k)) q) refl (λ a b. omega arith)
-          (λ a b. ap (λ (x : Bool). cond (x && (look ws n && defective (kbView k) (look ws) n)) (cleared ws n) ws) r)
+          from-enough 11 (omega arith) sheet ws k e (11 ∷ 0 ∷ []) (strikeWords (dominoes (kbView k)) (defective (kbView k)) n ws)
+          (ltb-false (length ws) (held (kbView k)) q) refl (λ a b. omega arith) (omega arith)
+          (λ a. ap (λ (x : Bool). cond (x && (look ws n && defective (kbView k) (look ws) n)) (cleared ws n) ws) r)
           (strike-long (dominoes (kbView k)) (defective (kbView k)) n ws)
           (drop-strike (held (kbView k)) (dominoes (kbView k)) (defective (kbView k)) n ws (held-room (kbView k)))
 
-  settle-refuses : (s : Reading) → readKb limit sheet ≡ s → Refuses sheet ws (settleSays s ws) (settleLeaves s ws)
+  settle-refuses : (s : Reading) → readKb limit sheet ≡ s → Refuses 10 sheet ws (settleSays s ws) (settleLeaves s ws)
   unfolding settleSays settleLeaves
-  settle-refuses (refusal n p) e = from-refusal sheet ws n p e
+  settle-refuses (refusal n p) e = from-refusal 10 (omega arith) sheet ws n p e
   settle-refuses (kb k) e = go (isShort k ws) refl
     where
       go : (b : Bool) → isShort k ws ≡ b
-          → Refuses sheet ws
+          → Refuses 10 sheet ws
           (cond b (10 ∷ 0 ∷ []) (0 ∷ 0 ∷ size (dominoes (kbView k)) (settled (dominoes (kbView k)) (defective (kbView k)) (look ws)) ∷ []))
           (cond b ws (settleWords (held (kbView k)) (dominoes (kbView k)) (defective (kbView k)) ws))
-      go true q = from-short sheet ws k e
+      go true q = from-short 10 (omega arith) sheet ws k e
       go false q =
-          written-done sheet ws k e _ (settled (dominoes (kbView k)) (defective (kbView k)) (look ws)) (ltb-false (length ws) (held (kbView k)) q)
+          written-done 10 (omega arith) sheet ws k e _ (settled (dominoes (kbView k)) (defective (kbView k)) (look ws))
+          (ltb-false (length ws) (held (kbView k)) q)
 
-  judge-refuses : (s : Reading) → readKb limit sheet ≡ s → Refuses sheet ws (judgeSays s ws) (judgeLeaves s ws)
+  judge-refuses : (s : Reading) → readKb limit sheet ≡ s → Refuses 10 sheet ws (judgeSays s ws) (judgeLeaves s ws)
   unfolding judgeSays judgeLeaves
-  judge-refuses (refusal n p) e = from-refusal sheet ws n p e
-  judge-refuses (kb k) e = go (isShort k ws) refl (strands (kbView k) (canon (kbView k)))
+  judge-refuses (refusal n p) e = from-refusal 10 (omega arith) sheet ws n p e
+  judge-refuses (kb k) e = go (isShort k ws) refl
     where
-      go : (b : Bool) → isShort k ws ≡ b → (d : Bool)
-          → Refuses sheet ws
+      go : (b : Bool) → isShort k ws ≡ b
+          → Refuses 10 sheet ws
           (cond b (10 ∷ 0 ∷ [])
-          (cond d (13 ∷ 0 ∷ [])
           (0 ∷ 0 ∷ size (dominoes (kbView k)) (initial (kbView k)) ∷ size (dominoes (kbView k)) (canon (kbView k))
-          ∷ cond (eqb (size (dominoes (kbView k)) (canon (kbView k))) 0) 0 1 ∷ [])))
+          ∷ cond (eqb (size (dominoes (kbView k)) (canon (kbView k))) 0) 0 1 ∷ []))
           (cond b ws (written (held (kbView k)) (dominoes (kbView k)) (canon (kbView k)) ws))
-      go true q d = from-short sheet ws k e
-      go false q true =
-          let h = ltb-false (length ws) (held (kbView k)) q in
-          from-enough sheet ws k e (13 ∷ 0 ∷ []) (written (held (kbView k)) (dominoes (kbView k)) (canon (kbView k)) ws) h refl
-          (λ a b. omega arith) (λ a b. absurd (b refl))
-          (written-long (held (kbView k)) (dominoes (kbView k)) (canon (kbView k)) ws h)
-          (written-past (held (kbView k)) (dominoes (kbView k)) (canon (kbView k)) ws)
-      go false q false = written-done sheet ws k e _ (canon (kbView k)) (ltb-false (length ws) (held (kbView k)) q)
+      go true q = from-short 10 (omega arith) sheet ws k e
+      go false q = written-done 10 (omega arith) sheet ws k e _ (canon (kbView k)) (ltb-false (length ws) (held (kbView k)) q)
 
 pub demand-1 : (sheet ws : List ℕ) (n : ℕ) → Demand1 sheet ws n
 demand-1 sheet ws n =
@@ -221,8 +219,7 @@ module _ (k : Kb) (ws : List ℕ) (h : held (kbView k) ≤ length ws) where
         strikes = λ l. ap refusalOf (strike-says k ws h n l);
         beyond = strike-beyond k ws h n;
         settles = ap refusalOf (settle-says k ws h);
-        judges = λ e. ap refusalOf (judge-says k ws h e);
-        stranded = judge-stranded k ws h;
+        judges = ap refusalOf (judge-says k ws h);
         settled = opened-settled;
       }
 

@@ -1,33 +1,33 @@
--- Demand 2: judging leaves the canonical set, the largest stable set; its verdict, its counts, and models. Assumes nothing.
+-- Demand 2: judging leaves the canonical set, the largest stable set; its verdict, its counts, its converses, and models. Assumes
+-- nothing.
 use mathlib.Core.Path.{_≡_, refl, sym as flip, ap, _∙_}
 use mathlib.Core.Logic.{_⊎_, inl, inr}
-use mathlib.Core.Bool.{Bool, true, false, not, _&&_, cond}
+use mathlib.Core.Bool.{Bool, true, false, not, cond}
 use mathlib.Core.List.{List, [], _∷_}
-use Prim.Native.Nat.{ℕ, zero, suc, _+_, _*_, _^_, _≤_, _<_}
+use Prim.Native.Nat.{ℕ, zero, suc, _≤_, _<_}
 use native.Mathlib.Nat.{le-refl}
 use native.Mathlib.Omega.{arith}
-use lib.Dec.{T, eqb, T-not}
+use lib.Dec.{T, eqb}
 use lib.ListN.{length, getD, take}
 use borrow.Author.Tests.{eqb-true, eqb-false}
 use Rattle.bitset.specs.Bits.{Set, look, areWords, size, onesOf}
-use Rattle.bitset.proofs.Facts.{either, and-left, and-right, T-of}
+use Rattle.bitset.proofs.Facts.{either, T-of}
 use Rattle.bitset.proofs.Sizes.{size-none}
-use Rattle.elimination.specs.Sets.{Same, some}
+use Rattle.elimination.specs.Sets.{Same}
 use Rattle.elimination.specs.Elimination.{isStable, steps}
-use Rattle.elimination.proofs.Tests.{some-at, some-by}
 use Rattle.elimination.proofs.Settling.{stable-same, canonical-largest, definition-5}
 use Rattle.tbox.specs.Reading.{Kb, kb, readKb}
 use Rattle.tbox.specs.Answers.{limit}
 use Rattle.semantics.specs.Dominoes.{Met, Domino, number, leftOf, rolesOf, rightOf, inverse, unnumbered}
 use Rattle.semantics.specs.Conditions.{View, dominoes, initial, lacks, defective, canon, canonDominoes}
 use Rattle.semantics.specs.Views.{kbView}
-use Rattle.semantics.proofs.Truths.{is-true, of-true, not-true}
-use Rattle.semantics.proofs.Numbers.{run-lt, number-lt}
+use Rattle.semantics.proofs.Truths.{is-true, of-true}
+use Rattle.semantics.proofs.Numbers.{number-lt, left-number}
 use Rattle.semantics.proofs.Defects.{lacks-monotone, defective-monotone}
 use Rattle.semantics.proofs.Canonical.{dominoesOf, of-domino, of-number, of-unnumbered, canon-stable, canon-largest, canon-sym}
 use Rattle.semantics.proofs.Verdict.{sheet-verdict, model-dominoes}
-use Rattle.domino.specs.Answers.{held, begins, strands, judgeSays, judgeLeaves}
-use Rattle.domino.specs.Demanded.{Demand2, Demand2Models}
+use Rattle.domino.specs.Answers.{held, judgeSays, judgeLeaves}
+use Rattle.domino.specs.Demanded.{Demand2, NeverStranded, Demand2Models}
 use Rattle.domino.proofs.Saying.{held-room, written-look, written-spare, written-ones, open-leaves, judge-says, judge-leaves, stable-words, words-stable}
 
 -- ---- the canonical set on numbers and as dominoes
@@ -83,38 +83,9 @@ module _ (v : View) where
       size-none (dominoes v) (canon v) e (number (v .parts) (v .roles) (m .0) (m .1) (m .2))
       (number-lt (v .parts) (v .roles) (m .0) (m .1) (m .2) d) (of-true (canon-number v (m .0) (m .1) (m .2) d ∙ m .3))
 
-  -- ---- the canonical set strands nothing, so judging is never refused with 13
-
-  in-row : (A R B : ℕ) → number (v .parts) (v .roles) A 0 0 + (R * 2 ^ v .parts + B) ≡ number (v .parts) (v .roles) A R B
-  unfolding number
-  in-row A R B = omega arith
-
-  canon-starts : (n : ℕ) → n < dominoes v → T (canon v n) → T (begins v (canon v) (rightOf (v .parts) n))
-  unfolding begins
-  canon-starts n h t =
-      let c : ℕ = v .parts in
-      let L : ℕ = v .roles in
-      let A : ℕ = leftOf c L n in
-      let R : ℕ = inverse L (rolesOf c L n) in
-      let B : ℕ = rightOf c n in
-      let e : canonDominoes v B R A ≡ true = canon-sym v A (rolesOf c L n) B (canon-domino v n h t) in
-      let d = canon-range v B R A e in
-      some-by (2 ^ (2 * v .roles + v .parts)) (λ i. canon v (number (v .parts) (v .roles) B 0 0 + i)) (R * 2 ^ c + A) (run-lt c L B R A d)
-      (of-true (ap (canon v) (in-row B R A) ∙ canon-number v B R A d ∙ e))
-
-  pub never-stranded : strands v (canon v) ≡ false
-  unfolding strands
-  never-stranded =
-      let test : ℕ → Bool = λ n. canon v n && not (begins v (canon v) (rightOf (v .parts) n)) in
-      not-true (some (dominoes v) test) (λ e.
-      let w = some-at (dominoes v) test (of-true e) in
-      let n : ℕ = w .0 in
-      T-not (begins v (canon v) (rightOf (v .parts) n)) (and-right (canon v n) (not (begins v (canon v) (rightOf (v .parts) n))) (w .2))
-      (canon-starts n (w .1) (and-left (canon v n) (not (begins v (canon v) (rightOf (v .parts) n))) (w .2))))
-
 -- ---- what judge answers and leaves
 
-module _ (k : Kb) (ws : List ℕ) (t : T (areWords ws)) (h : held (kbView k) ≤ length ws) where
+module _ (k : Kb) (ws : List ℕ) (h : held (kbView k) ≤ length ws) where
   judged : Same (dominoes (kbView k)) (look (judgeLeaves (kb k) ws)) (canon (kbView k))
   judged p l =
       ap (λ (us : List ℕ). look us p) (judge-leaves k ws h)
@@ -125,7 +96,7 @@ module _ (k : Kb) (ws : List ℕ) (t : T (areWords ws)) (h : held (kbView k) ≤
       → (opening ≡ size (dominoes (kbView k)) (initial (kbView k))) × (survivors ≡ size (dominoes (kbView k)) (canon (kbView k)))
       × (met ≡ cond (eqb (size (dominoes (kbView k)) (canon (kbView k))) 0) 0 1)
   values opening survivors met e =
-      let q = flip e ∙ judge-says k ws h (never-stranded (kbView k)) in
+      let q = flip e ∙ judge-says k ws h in
       (ap (λ (l : List ℕ). getD l 2 0) q, ap (λ (l : List ℕ). getD l 3 0) q, ap (λ (l : List ℕ). getD l 4 0) q)
 
   verdict-is : (met : ℕ) (b : Bool) → eqb (size (dominoes (kbView k)) (canon (kbView k))) 0 ≡ b → met ≡ cond b 0 1
@@ -133,8 +104,8 @@ module _ (k : Kb) (ws : List ℕ) (t : T (areWords ws)) (h : held (kbView k) ≤
   verdict-is met true q e = inr (e, none-left (kbView k) (eqb-true (size (dominoes (kbView k)) (canon (kbView k))) 0 q))
   verdict-is met false q e = inl (e, some-left (kbView k) (eqb-false (size (dominoes (kbView k)) (canon (kbView k))) 0 q))
 
-  judging-is : Demand2 (kb k) (kbView k) ws
-  judging-is =
+  judging-is : T (areWords ws) → Demand2 (kb k) (kbView k) ws
+  judging-is t =
       let v : View = kbView k in
       let same = judged in
       record {
@@ -157,16 +128,42 @@ module _ (k : Kb) (ws : List ℕ) (t : T (areWords ws)) (h : held (kbView k) ≤
             );
       }
 
+  -- a domino of the canonical set is in the words left
+  survives : (A R B : ℕ) → canonDominoes (kbView k) A R B ≡ true
+      → look (judgeLeaves (kb k) ws) (number (kbView k .parts) (kbView k .roles) A R B) ≡ true
+  survives A R B e =
+      let v : View = kbView k in
+      let d = canon-range v A R B e in
+      judged (number (v .parts) (v .roles) A R B) (number-lt (v .parts) (v .roles) A R B d) ∙ canon-number v A R B d ∙ e
+
+  -- and so is its converse, which begins with its right label
+  unstranded : NeverStranded (kb k) (kbView k) ws
+  unstranded =
+      let v : View = kbView k in
+      let c : ℕ = v .parts in
+      let L : ℕ = v .roles in
+      record {
+        converse = λ A R B d e.
+            survives B (inverse L R) A
+            (canon-sym v A R B (flip (canon-number v A R B d) ∙ flip (judged (number c L A R B) (number-lt c L A R B d)) ∙ e));
+        begins = λ n l e.
+            let A : ℕ = leftOf c L n in
+            let R : ℕ = inverse L (rolesOf c L n) in
+            let B : ℕ = rightOf c n in
+            let s : canonDominoes v B R A ≡ true =
+            canon-sym v A (rolesOf c L n) B (canon-domino v n l (of-true (flip (judged n l) ∙ e))) in
+            let d = canon-range v B R A s in
+            (number c L B R A, number-lt c L B R A d, survives B R A s, left-number c L B R A d);
+      }
+
 pub demand-2 : (sheet : List ℕ) (k : Kb) → readKb limit sheet ≡ kb k → (ws : List ℕ) → T (areWords ws)
     → held (kbView k) ≤ length ws → Demand2 (readKb limit sheet) (kbView k) ws
-demand-2 sheet k e ws t h = rw e (judging-is k ws t h)
+demand-2 sheet k e ws t h = rw e (judging-is k ws h t)
 
--- judge is not refused
-pub judge-answers : (sheet : List ℕ) (k : Kb) → readKb limit sheet ≡ kb k → (ws : List ℕ) → held (kbView k) ≤ length ws
-    → judgeSays (readKb limit sheet) ws
-    ≡ 0 ∷ 0 ∷ size (dominoes (kbView k)) (initial (kbView k)) ∷ size (dominoes (kbView k)) (canon (kbView k))
-    ∷ cond (eqb (size (dominoes (kbView k)) (canon (kbView k))) 0) 0 1 ∷ []
-judge-answers sheet k e ws h = rw e (judge-says k ws h (never-stranded (kbView k)))
+-- 02, N5: "No sheet can lead there"
+pub never-stranded : (sheet : List ℕ) (k : Kb) → readKb limit sheet ≡ kb k → (ws : List ℕ)
+    → held (kbView k) ≤ length ws → NeverStranded (readKb limit sheet) (kbView k) ws
+never-stranded sheet k e ws h = rw e (unstranded k ws h)
 
 pub demand-2-models : (sheet : List ℕ) (k : Kb) → readKb limit sheet ≡ kb k → Demand2Models k
 demand-2-models sheet k e =

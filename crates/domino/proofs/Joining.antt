@@ -1,6 +1,6 @@
 -- Two views that agree where the conditions look have the same initial set, defects and canonical set, so the same answers and
 -- words; the tables of a loaded knowledge base agree with what the knowledge base says. Assumes nothing.
-use Prim.Native.Nat.{ℕ, _+_, _*_, _/_, _%_, _^_, _≤_, _<_}
+use Prim.Native.Nat.{ℕ, _*_, _/_, _%_, _^_, _≤_, _<_}
 use native.Mathlib.Omega.{arith}
 use mathlib.Core.Path.{_≡_, refl, sym as flip, ap, ap₂, subst, _∙_}
 use mathlib.Core.Bool.{Bool, true, false, not, _&&_, _||_, cond}
@@ -34,8 +34,8 @@ use Rattle.semantics.proofs.Defects.{defect-cases, defective-is, defective-mono
 use Rattle.domino.specs.declared.Outcome.{Outcome}
 use Rattle.domino.specs.declared.judging.Judgement.{Judgement}
 use Rattle.domino.specs.Tables.{inLabel, view, Sized, partsIn}
-use Rattle.domino.specs.Answers.{verdictOf, begins, strands, OpensSet, StrikesSet, SettlesSet, JudgesSet}
-use Rattle.domino.proofs.Rows.{few-sets, next-row, row-le}
+use Rattle.domino.specs.Answers.{verdictOf, OpensSet, StrikesSet, SettlesSet, JudgesSet}
+use Rattle.domino.proofs.Rows.{few-sets}
 
 -- ---- tests that count only where another passes
 
@@ -192,19 +192,10 @@ module _ (v w : View) (a : Agree v w) where
         set = o .set ∙ written-same _ (dominoes v) S U ws (settled-agree (look ws));
       }
 
-  strands-same : strands v (canon v) ≡ strands u (canon u)
-  unfolding strands begins
-  strands-same =
-      any-same (dominoes v) _ _ (λ n h. ap₂ (λ (x y : Bool). x && not y) (canon-same n h)
-      (let B : ℕ = rightOf (v .parts) n in
-      let r = row-le (v .parts) (v .roles) B (domino-of (v .parts) (v .roles) n h .right) in
-      any-same (2 ^ (2 * v .roles + v .parts)) _ _ (λ i l. canon-same _ (omega (arith, next-row (v .parts) (v .roles) B)))))
-
   judges-u : (ws vs : List ℕ) (r : Judgement) → JudgesSet v ws vs r → JudgesSet u ws vs r
   judges-u ws vs r o = record {
     opening = o .opening ∙ size-same (dominoes v) (initial v) (initial u) initial-same;
     survivors = o .survivors ∙ size-same (dominoes v) (canon v) (canon u) canon-same;
-    stranded = o .stranded ∙ strands-same;
     set = o .set ∙ written-same _ (dominoes v) (canon v) (canon u) ws canon-same;
   }
 

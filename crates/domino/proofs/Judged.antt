@@ -13,7 +13,7 @@ use Rattle.bitset.proofs.Sizes.{size-le}
 use Rattle.tbox.specs.Reading.{Kb, Reading, refusal, kb}
 use Rattle.semantics.specs.Conditions.{dominoes, initial, canon}
 use Rattle.semantics.specs.Views.{kbView}
-use Rattle.domino.specs.Answers.{held, isShort, strands, judgeSays}
+use Rattle.domino.specs.Answers.{held, isShort, judgeSays}
 use Rattle.domino.proofs.Saying.{held-room}
 
 -- ---- the words lent
@@ -52,11 +52,10 @@ Forms says words =
     ((n : ℕ) × (p : ℕ) × (says ≡ n ∷ p ∷ []))
     ⊎ ((opening : ℕ) × (n : ℕ) × (says ≡ 0 ∷ 0 ∷ opening ∷ n ∷ cond (eqb n 0) 0 1 ∷ []) × (n ≤ 64 * words))
 
-forms : (short stranded : Bool) (o n w : ℕ) → (short ≡ false → n ≤ 64 * w)
-    → Forms (cond short (10 ∷ 0 ∷ []) (cond stranded (13 ∷ 0 ∷ []) (0 ∷ 0 ∷ o ∷ n ∷ cond (eqb n 0) 0 1 ∷ []))) w
-forms true stranded o n w h = inl (10, 0, refl)
-forms false true o n w h = inl (13, 0, refl)
-forms false false o n w h = inr (o, n, refl, h refl)
+forms : (short : Bool) (o n w : ℕ) → (short ≡ false → n ≤ 64 * w)
+    → Forms (cond short (10 ∷ 0 ∷ []) (0 ∷ 0 ∷ o ∷ n ∷ cond (eqb n 0) 0 1 ∷ [])) w
+forms true o n w h = inl (10, 0, refl)
+forms false o n w h = inr (o, n, refl, h refl)
 
 pub judge-forms : (s : Reading) (ws : List ℕ) → Forms (judgeSays s ws) (length ws)
 unfolding judgeSays
@@ -64,5 +63,5 @@ judge-forms (refusal n p) ws = inl (n, p, refl)
 judge-forms (kb k) ws =
     let v = kbView k in
     let n = size (dominoes v) (canon v) in
-    forms (isShort k ws) (strands v (canon v)) (size (dominoes v) (initial v)) n (length ws)
+    forms (isShort k ws) (size (dominoes v) (initial v)) n (length ws)
     (λ q. omega (arith, ltb-false (length ws) (held v) q, size-le (dominoes v) (canon v), held-room v))

@@ -7,7 +7,6 @@ pub mod Defects
 pub mod Witnesses
 pub mod Masks
 pub mod Whole
-pub mod Beginnings
 pub mod Writing
 pub mod Dropping
 pub mod Passing

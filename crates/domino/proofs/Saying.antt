@@ -24,7 +24,7 @@ use Rattle.semantics.specs.Conditions.{View, dominoes, initial, defective, defe
 use Rattle.semantics.specs.Views.{kbView}
 use Rattle.semantics.proofs.Truths.{is-true, of-true, eqb-true}
 use Rattle.semantics.proofs.Defects.{defective-is}
-use Rattle.domino.specs.Answers.{held, isShort, strands, verdictNumbers, verdictOf, openSays, openLeaves, strikeSays, strikeLeaves, settleSays, settleLeaves, judgeSays, judgeLeaves}
+use Rattle.domino.specs.Answers.{held, isShort, verdictNumbers, verdictOf, openSays, openLeaves, strikeSays, strikeLeaves, settleSays, settleLeaves, judgeSays, judgeLeaves}
 use Rattle.domino.specs.Demanded.{StableWords}
 
 -- ---- the words needed
@@ -116,16 +116,11 @@ module _ (k : Kb) (ws : List ℕ) (enough : held (kbView k) ≤ length ws) where
   unfolding settleLeaves
   settle-leaves = rw not-short
 
-  -- judge is refused with 13 exactly if the canonical set strands
-  pub judge-stranded : strands (kbView k) (canon (kbView k)) ≡ true → judgeSays (kb k) ws ≡ 13 ∷ 0 ∷ []
-  unfolding judgeSays
-  judge-stranded e = rw (not-short, e)
-
-  pub judge-says : strands (kbView k) (canon (kbView k)) ≡ false → judgeSays (kb k) ws
+  pub judge-says : judgeSays (kb k) ws
       ≡ 0 ∷ 0 ∷ size (dominoes (kbView k)) (initial (kbView k)) ∷ size (dominoes (kbView k)) (canon (kbView k))
       ∷ cond (eqb (size (dominoes (kbView k)) (canon (kbView k))) 0) 0 1 ∷ []
   unfolding judgeSays
-  judge-says e = rw (not-short, e)
+  judge-says = rw not-short
 
   pub judge-leaves : judgeLeaves (kb k) ws ≡ written (held (kbView k)) (dominoes (kbView k)) (canon (kbView k)) ws
   unfolding judgeLeaves

@@ -33,7 +33,6 @@ use Rattle.semantics.proofs.Defects.{defective-monotone}
 use Rattle.domino.specs.Answers.{held, isShort, verdictNumbers, verdictOf, openSays, openLeaves, strikeSays, strikeLeaves, settleSays, judgeSays, judgeLeaves}
 use Rattle.domino.specs.Examples.{Row, row, answered, table, tried, strikes, needs}
 use Rattle.domino.proofs.Saying.{held-room, written-long, written-look, open-says, open-leaves, settle-says, judge-says, judge-leaves}
-use Rattle.domino.proofs.Demand2.{never-stranded}
 
 -- ---- what computes
 
@@ -105,7 +104,7 @@ module _ (k : Kb) (l : List ℕ) where
         → row t r l (openSays (kb k) l) (openLeaves (kb k) l) (settleSays (kb k) (openLeaves (kb k) l)) (judgeSays (kb k) l) (judgeLeaves (kb k) l)
         ≡ viewRow (kbView k) t r l
     view-row t r =
-        rw (opened-size, open-leaves k l h, open-says k l h, judge-says k l h (never-stranded (kbView k)), canon-size, ← canon-words)
+        rw (opened-size, open-leaves k l h, open-says k l h, judge-says k l h, canon-size, ← canon-words)
 
 same-row : (s : Reading) (t r l : List ℕ)
     → row t r l (openSays s l) (openLeaves s l) (settleSays s (openLeaves s l)) (judgeSays s l) (judgeLeaves s l) ≡ readRow s t r l

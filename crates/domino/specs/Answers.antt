@@ -1,17 +1,16 @@
 -- What open, strike, settle and judge answer and leave (01, "The calls, and what each refuses"). Assumes nothing: these are
 -- definitions.
-use Prim.Native.Nat.{ℕ, _+_, _*_, _^_}
+use Prim.Native.Nat.{ℕ}
 use mathlib.Core.Path.{_≡_}
-use mathlib.Core.Bool.{Bool, not, _&&_, cond}
+use mathlib.Core.Bool.{Bool, cond}
 use mathlib.Core.List.{List, [], _∷_}
 use lib.Dec.{eqb, ltb}
 use lib.ListN.{length}
 use Rattle.bitset.specs.Bits.{Set, look, size}
-use Rattle.elimination.specs.Sets.{some}
 use Rattle.elimination.specs.Elimination.{settled}
 use Rattle.elimination.specs.Calls.{written, strikeWords, settleWords}
 use Rattle.tbox.specs.Reading.{Kb, Reading, refusal, kb}
-use Rattle.semantics.specs.Dominoes.{rightOf, number, wordsFor}
+use Rattle.semantics.specs.Dominoes.{wordsFor}
 use Rattle.semantics.specs.Conditions.{View, dominoes, initial, defective, defectAt, canon}
 use Rattle.semantics.specs.Views.{kbView}
 use Rattle.domino.specs.declared.OpenAnswer.{OpenAnswer}
@@ -100,24 +99,15 @@ settleLeaves (refusal n p) ws = ws
 settleLeaves (kb k) ws =
     cond (isShort k ws) ws (settleWords (held (kbView k)) (dominoes (kbView k)) (defective (kbView k)) ws)
 
--- has the set a domino with left label A
-unfoldable pub begins : View → Set → ℕ → Bool
-begins v D A = some (2 ^ (2 * v .roles + v .parts)) (λ i. D (number (v .parts) (v .roles) A 0 0 + i))
-
--- "13, a survivor whose right mark set begins no survivor"
-unfoldable pub strands : View → Set → Bool
-strands v D = some (dominoes v) (λ n. D n && not (begins v D (rightOf (v .parts) n)))
-
--- judge: "It opens and settles, and answers the opening size, the survivor count, and met or unmet."
+-- judge: "It opens and settles, and answers the opening size, the survivor count, and met or unmet." 02, N5: "13 is withdrawn"
 unfoldable pub judgeSays : Reading → List ℕ → List ℕ
 judgeSays (refusal n p) ws = n ∷ p ∷ []
 judgeSays (kb k) ws =
     cond (isShort k ws) (10 ∷ 0 ∷ [])
-    (cond (strands (kbView k) (canon (kbView k))) (13 ∷ 0 ∷ [])
     (0 ∷ 0 ∷ size (dominoes (kbView k)) (initial (kbView k)) ∷ size (dominoes (kbView k)) (canon (kbView k))
-    ∷ cond (eqb (size (dominoes (kbView k)) (canon (kbView k))) 0) 0 1 ∷ []))
+    ∷ cond (eqb (size (dominoes (kbView k)) (canon (kbView k))) 0) 0 1 ∷ [])
 
--- "A refusal writes nothing to any buffer, save 13, which leaves the set settled."
+-- "A refusal writes nothing to any buffer"
 unfoldable pub judgeLeaves : Reading → List ℕ → List ℕ
 judgeLeaves (refusal n p) ws = ws
 judgeLeaves (kb k) ws =
@@ -159,5 +149,4 @@ pub record SettlesSet (v : View) (before after : List ℕ) (r : ℕ) : Type 0 wh
 pub record JudgesSet (v : View) (before after : List ℕ) (r : Judgement) : Type 0 where
   pub opening : r .opening ≡ size (dominoes v) (initial v)
   pub survivors : r .survivors ≡ size (dominoes v) (canon v)
-  pub stranded : r .stranded ≡ strands v (canon v)
   pub set : after ≡ written (held v) (dominoes v) (canon v) before

@@ -14,11 +14,11 @@ use Rattle.elimination.specs.Calls.{Call, strike, settle, runWith, Passes}
 use Rattle.tbox.specs.Reading.{Kb, Reading, refusal, kb, readKb}
 use Rattle.tbox.specs.Answers.{limit}
 use Rattle.semantics.specs.Interpretations.{Interpretation, models}
-use Rattle.semantics.specs.Dominoes.{Met, Domino, number}
-use Rattle.semantics.specs.Conditions.{View, LargestStable, dominoes, initial, defective, defectAt, canon, canonDominoes}
+use Rattle.semantics.specs.Dominoes.{Met, Domino, number, leftOf, rightOf, inverse}
+use Rattle.semantics.specs.Conditions.{View, LargestStable, dominoes, initial, defective, defectAt, canonDominoes}
 use Rattle.semantics.specs.Views.{kbView}
 use Rattle.semantics.specs.Projection.{projection}
-use Rattle.domino.specs.Answers.{held, strands, openSays, openLeaves, strikeSays, strikeLeaves, settleSays, settleLeaves, judgeSays, judgeLeaves}
+use Rattle.domino.specs.Answers.{held, openSays, openLeaves, strikeSays, strikeLeaves, settleSays, settleLeaves, judgeSays, judgeLeaves}
 
 -- ---- demand 1: "the call comes back with the refusal number and place that document 01 fixes, and every set and list is
 -- untouched, unless a later request says outright what that refusal leaves. Where the input is sound the call does its work."
@@ -30,8 +30,8 @@ refusalOf says = getD says 0 0
 abbrev pub placeOf : List ℕ → ℕ
 placeOf says = getD says 1 0
 
--- what a call keeps to that says `says` and leaves `after` of the words `before`
-pub record Refuses (sheet before says after : List ℕ) : Type 0 where
+-- what a call keeps to whose refusals go up to the number `last`, and that says `says` and leaves `after` of the words `before`
+pub record Refuses (last : ℕ) (sheet before says after : List ℕ) : Type 0 where
   -- "refuses as read does": with its number, 1 to 9, and its place
   pub read : (n p : ℕ) → readKb limit sheet ≡ refusal n p → (says ≡ n ∷ p ∷ []) × (1 ≤ n) × (n ≤ 9)
   -- "then 10, set too short"
@@ -39,31 +39,32 @@ pub record Refuses (sheet before says after : List ℕ) : Type 0 where
   -- "The place is the byte where the offending record starts for 1 to 8, and 0 otherwise."
   pub inside : 1 ≤ refusalOf says → refusalOf says ≤ 8 → placeOf says < length sheet
   pub nowhere : 9 ≤ refusalOf says → placeOf says ≡ 0
-  -- "A refusal writes nothing to any buffer, save 13"
-  pub untouched : (refusalOf says ≡ 0 → ⊥) → (refusalOf says ≡ 13 → ⊥) → after ≡ before
+  -- no other number is given; 02, N5: "13 is withdrawn, its number left unused"
+  pub among : refusalOf says ≤ last
+  -- "A refusal writes nothing to any buffer"; 01's exception was 13
+  pub untouched : (refusalOf says ≡ 0 → ⊥) → after ≡ before
   -- "Further words are never touched."
   pub long : length after ≡ length before
   pub past : (k : Kb) → readKb limit sheet ≡ kb k → drop (held (kbView k)) after ≡ drop (held (kbView k)) before
 
 -- for words ws, and a number n to strike
 pub record Demand1 (sheet ws : List ℕ) (n : ℕ) : Type 0 where
-  pub opening : Refuses sheet ws (openSays (readKb limit sheet) ws) (openLeaves (readKb limit sheet) ws)
-  pub striking : Refuses sheet ws (strikeSays (readKb limit sheet) n ws) (strikeLeaves (readKb limit sheet) n ws)
-  pub settling : Refuses sheet ws (settleSays (readKb limit sheet) ws) (settleLeaves (readKb limit sheet) ws)
-  pub judging : Refuses sheet ws (judgeSays (readKb limit sheet) ws) (judgeLeaves (readKb limit sheet) ws)
+  pub opening : Refuses 10 sheet ws (openSays (readKb limit sheet) ws) (openLeaves (readKb limit sheet) ws)
+  pub striking : Refuses 11 sheet ws (strikeSays (readKb limit sheet) n ws) (strikeLeaves (readKb limit sheet) n ws)
+  pub settling : Refuses 10 sheet ws (settleSays (readKb limit sheet) ws) (settleLeaves (readKb limit sheet) ws)
+  pub judging : Refuses 10 sheet ws (judgeSays (readKb limit sheet) ws) (judgeLeaves (readKb limit sheet) ws)
 
 -- ---- for a sheet that is read as s, its view v, and words ws that are enough
 
--- open and settle are not refused, strike with 11 alone, judge with 13 alone
+-- open, settle and judge are not refused, strike with 11 alone
 pub record Demand1Done (s : Reading) (v : View) (ws : List ℕ) (n : ℕ) : Type 0 where
   pub opens : refusalOf (openSays s ws) ≡ 0
   pub strikes : n < dominoes v → refusalOf (strikeSays s n ws) ≡ 0
   -- "then 11, number not below 2^(2c+2L)"
   pub beyond : dominoes v ≤ n → strikeSays s n ws ≡ 11 ∷ 0 ∷ []
   pub settles : refusalOf (settleSays s ws) ≡ 0
-  pub judges : strands v (canon v) ≡ false → refusalOf (judgeSays s ws) ≡ 0
-  -- "13, a survivor whose right mark set begins no survivor", "which leaves the set settled"
-  pub stranded : strands v (canon v) ≡ true → judgeSays s ws ≡ 13 ∷ 0 ∷ []
+  pub judges : refusalOf (judgeSays s ws) ≡ 0
+  -- "It opens and settles"
   pub settled : judgeLeaves s ws ≡ settleLeaves s (openLeaves s ws)
 
 -- no domino in the words is defective in their set. 01: "A set is at rest if no pairing in it is loose in it."
@@ -89,6 +90,16 @@ pub record Demand2 (s : Reading) (v : View) (ws : List ℕ) : Type 0 where
   -- the sizes are the ones in the words used: "the count is tied to the set left"
   pub counts : (opening survivors met : ℕ) → judgeSays s ws ≡ 0 ∷ 0 ∷ opening ∷ survivors ∷ met ∷ []
       → (opening ≡ onesOf (take (held v) (openLeaves s ws))) × (survivors ≡ onesOf (take (held v) (judgeLeaves s ws)))
+
+-- 02, N5: no sheet leads to 01's refusal 13, "a survivor whose right mark set begins no survivor", which is withdrawn
+pub record NeverStranded (s : Reading) (v : View) (ws : List ℕ) : Type 0 where
+  -- "a survivor's mirror survives too"
+  pub converse : (A R B : ℕ) → Domino (v .parts) (v .roles) A R B
+      → look (judgeLeaves s ws) (number (v .parts) (v .roles) A R B) ≡ true
+      → look (judgeLeaves s ws) (number (v .parts) (v .roles) B (inverse (v .roles) R) A) ≡ true
+  -- so the right label of a survivor is the left label of one
+  pub begins : (n : ℕ) → n < dominoes v → look (judgeLeaves s ws) n ≡ true
+      → (m : ℕ) × (m < dominoes v) × (look (judgeLeaves s ws) m ≡ true) × (leftOf (v .parts) (v .roles) m ≡ rightOf (v .parts) n)
 
 -- "Every finite plant of at least one item that keeps the sheet has all its pairings in that set."
 pub record Demand2Models (k : Kb) : Type 0 where

@@ -1,8 +1,7 @@
 -- What the tables of a flattened knowledge base say: the view of the struct Parts, the words of roles, four to a part, and the
 -- words of good labels. Assumes nothing: these are definitions.
-use Prim.Native.Nat.{ℕ, _+_, _-_, _*_, _/_, _%_, _^_, _≤_, _<_}
-use mathlib.Core.Path.{_≡_}
-use mathlib.Core.Bool.{Bool, true, false, cond}
+use Prim.Native.Nat.{ℕ, _+_, _*_, _/_, _%_, _^_, _≤_, _<_}
+use mathlib.Core.Bool.{Bool, cond}
 use mathlib.Core.List.{List}
 use lib.Dec.{eqb, ltb}
 use lib.ListN.{getD}
@@ -57,16 +56,3 @@ pub record Fits (c l a words : ℕ) : Type 0 where
 -- the parts that a loaded knowledge base has
 abbrev pub partsIn : Base → Parts
 partsIn b = record { count = b .parts; roles = b .roles; kind = b .kind; filler = b .filler }
-
--- the words of a table with a bit for each label, at least one
-abbrev pub labelWords : ℕ → ℕ
-labelWords c = 2 ^ (c - 6)
-
--- the spare bits of the words needed are clear
-unfoldable pub Spare : ℕ → ℕ → List ℕ → Type 0
-Spare c l ws = (n : ℕ) → total c l ≤ n → n < 64 * wordsFor (total c l) → look ws n ≡ false
-
--- laid on one another, m at a time, the first k words are the table: it has the last bits of each of their numbers, and no others
-pub record Ends (k m : ℕ) (ws table : List ℕ) : Type 0 where
-  pub each : (n : ℕ) → n < 64 * k → look ws n ≡ true → look table (n % (64 * m)) ≡ true
-  pub only : (q : ℕ) → look table q ≡ true → (n : ℕ) × (n < 64 * k) × (n % (64 * m) ≡ q) × (look ws n ≡ true)

@@ -1,8 +1,7 @@
 // Domino sets in lent words: open, strike, settle and judge.
 ghost use mathlib.Core.Path.{_≡_};
-ghost use Prim.Native.Nat.{_+_, _*_, _<_, _≤_};
+ghost use Prim.Native.Nat.{_<_};
 ghost use lib.ListN.{length};
-ghost use Rattle.bitset.specs.Bits.{look, size};
 ghost use Rattle.tbox.specs.Reading.{readKb};
 ghost use Rattle.tbox.specs.Answers.{limit};
 ghost use Rattle.semantics.specs.Dominoes.{total};
@@ -146,9 +145,6 @@ pub fn judge(sheet: &[u8], set: &mut [u64]) -> JudgeAnswer
     let role = b.role;
     let good = b.good;
     let j = judge_set(set, parts_in(b), &role, &good);
-    if j.stranded {
-        return JudgeAnswer::Refused(13, 0);
-    }
     JudgeAnswer::Judged(j.opening, j.survivors, j.survivors != 0)
 }
 

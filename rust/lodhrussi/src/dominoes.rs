@@ -176,8 +176,7 @@ pub fn settle(sheet: &[u8], set: &mut [u64]) -> Result<u64, Refusal> {
 ///
 /// # Errors
 ///
-/// The refusals of [`open`]; then 13, with the set settled, if a survivor's
-/// right label begins no survivor.
+/// The refusals of [`open`].
 ///
 /// ```
 /// let sheet = [1, 0x10, 0, 3, 0, 7, 1, 2, 0x20, 0, 3];

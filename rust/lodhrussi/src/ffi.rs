@@ -1,6 +1,6 @@
 //! The functions of the static library. Each answers the number of a refusal,
-//! or 0; it writes `place` only on a refusal, all else only without one (refusal
-//! 13 leaves the set settled), and `condition` only when struck.
+//! or 0; it writes `place` only on a refusal, all else only without one, and
+//! `condition` only when struck.
 
 extern "C" {
     pub fn lodhrussi_read(

@@ -17,7 +17,7 @@ use std::fmt;
 pub struct Refusal {
     /// 1 to 8 for a fault of one record, 9 for too many parts, 10 for a set
     /// that is too short, 11 for a domino number that is too large, 12 for a
-    /// list that is too short, 13 for a survivor whose right label begins none.
+    /// list that is too short. 13 is withdrawn: no call answers it.
     pub number: u64,
     /// The byte where the faulty record starts; 0 for numbers above 8.
     pub place: u64,
@@ -58,7 +58,6 @@ impl fmt::Display for Refusal {
             10 => f.write_str("The set has fewer words than the dominoes need."),
             11 => f.write_str("There is no domino of that number."),
             12 => f.write_str("The list is shorter than three bytes for each part."),
-            13 => f.write_str("The right label of a survivor begins no survivor."),
             number => write!(f, "The call refused with number {number}."),
         }
     }
@@ -73,10 +72,10 @@ mod tests {
 
     #[test]
     fn each_refusal_has_its_own_sentence() {
-        let sentences: HashSet<String> = (1..=13)
+        let sentences: HashSet<String> = (1..=12)
             .map(|number| Refusal { number, place: 5 }.to_string())
             .collect();
-        assert_eq!(sentences.len(), 13);
+        assert_eq!(sentences.len(), 12);
         assert!(sentences.iter().all(|sentence| sentence.ends_with('.')));
         assert!(!sentences
             .iter()

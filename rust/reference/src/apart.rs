@@ -29,7 +29,7 @@ pub fn list_marks(sheet: &[u8], list: &mut [u8]) -> Result<usize, Refusal> {
 ///
 /// # Errors
 ///
-/// The refusals of [`read`], then 10, then 13 with the set settled.
+/// The refusals of [`read`], then 10.
 pub fn judge(sheet: &[u8], set: &mut [u64]) -> Result<Judgement, Refusal> {
     judge_flat(&flatten_apart(sheet)?, set)
 }

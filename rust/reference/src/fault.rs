@@ -23,7 +23,8 @@ impl Refusal {
     }
 }
 
-/// The faults, by document 01's numbers.
+/// The faults, by document 01's numbers. 13 is withdrawn (document 02, N5) and
+/// left unused.
 #[derive(Clone, Copy)]
 pub(crate) enum Fault {
     UnknownKind = 1,
@@ -38,5 +39,4 @@ pub(crate) enum Fault {
     SetTooShort = 10,
     DominoTooLarge = 11,
     ListTooShort = 12,
-    LabelWithoutDomino = 13,
 }

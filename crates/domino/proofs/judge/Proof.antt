@@ -1,6 +1,6 @@
--- A sheet that is refused, a set that is too short, or the canonical set; refused if a right label begins none of it. Assumes nothing.
+-- A sheet that is refused, a set that is too short, or the canonical set. Assumes nothing.
 use borrow.Author.Needs.{needs}
-use Rattle.domino.proofs.Answering.{load-small, load-enough, judge-refused, judge-short, judge-stranded, judge-whole}
+use Rattle.domino.proofs.Answering.{load-small, load-enough, judge-refused, judge-short, judge-whole}
 use Rattle.domino.proofs.judge.Statement.{statement}
 use Rattle.domino.proofs.judge.Tie as tie
 
@@ -43,22 +43,8 @@ returns-3 c =
     let words = if2 .before in
     let if1 = words .before .before in
     let load = if1 .before .before in
-    judge-stranded _ _ (load .load .ensures) (if1 .if1 .left) _ (words .words-for .ensures) _ (if2 .if2 .left)
-    _ (parts .parts-in .ensures) _ _ (done .judge-set .ensures) (c .if3 .taken)
-
-same-length-2 : tie.Need-same-length-2
-same-length-2 c = search needs
-
-returns-4 : tie.Need-returns-4
-returns-4 c =
-    let done = c .before .before .before .before in
-    let parts = done .before .before .before in
-    let if2 = parts .before .before .before .before in
-    let words = if2 .before in
-    let if1 = words .before .before in
-    let load = if1 .before .before in
     judge-whole _ _ (load .load .ensures) (if1 .if1 .left) _ (words .words-for .ensures) _ (if2 .if2 .left)
-    _ (parts .parts-in .ensures) _ _ (done .judge-set .ensures) (c .before .if3 .left)
+    _ (parts .parts-in .ensures) _ _ (done .judge-set .ensures)
 
 pub judge-spec : {M : Type 1} → statement M
 judge-spec =
@@ -71,6 +57,4 @@ judge-spec =
     parts-in-requires
     judge-set-requires
     same-length
-    returns-3
-    same-length-2
-    returns-4)
+    returns-3)
