@@ -126,7 +126,7 @@ def products_in(functions):
 # A source text, and how many products and quotients it has.
 TEXTS = [
     ("let from = 3 * i;", 1),
-    ("let size = 64 * label_words(c);", 1),
+    ("let size = 64 * words_for(c, l);", 1),
     ("set[i] * 2 + (a) * b", 2),
     ("total *= 2;", 1),
     ("n % pow(c)", 1),

@@ -1,9 +1,9 @@
 -- The sweep of a row is a step of Passed: a row without its witnesses goes, in another each domino is matched; and where a sweep
 -- changes nothing, what is left is what settling leaves. Assumes nothing.
 use mathlib.Core.Path.{_≡_, refl, sym as flip, ap, subst, subst₂, _∙_}
-use mathlib.Core.Bool.{Bool, true, false, not, _&&_, _||_, cond, false≢true}
+use mathlib.Core.Bool.{Bool, true, false, not, _&&_, cond, false≢true}
 use mathlib.Core.List.{List}
-use Prim.Native.Nat.{ℕ, _+_, _*_, _^_, _≤_, _<_}
+use Prim.Native.Nat.{ℕ, _+_, _^_, _≤_, _<_}
 use native.Mathlib.Omega.{arith}
 use lib.Dec.{T, T-not, not-T}
 use lib.ListN.{length}
@@ -15,10 +15,10 @@ use Rattle.elimination.specs.Elimination.{Within}
 use Rattle.elimination.proofs.Tests.{or-cases, or-right}
 use Rattle.elimination.proofs.Settling.{stable-by, within-start, within-less, within-trans, within-stable}
 use Rattle.semantics.specs.Dominoes.{Dominoes, number, leftOf, rolesOf, rightOf, numbered}
-use Rattle.semantics.specs.Conditions.{View, kb, ex, uni, witness, delex, deluni, sym, initially, sustained, dominoes, initial, lacks, defective}
+use Rattle.semantics.specs.Conditions.{View, kb, witness, delex, deluni, sym, initially, sustained, dominoes, initial, lacks, defective}
 use Rattle.semantics.proofs.Truths.{is-true, of-true, and-l}
 use Rattle.semantics.proofs.Defects.{defective-monotone}
-use Rattle.domino.specs.Polarity.{wants, found, witnessed, rowDefect}
+use Rattle.domino.specs.Polarity.{rowDefect}
 use Rattle.domino.specs.Sweeps.{unmatched, Emptied, Passed, Empty, Swept}
 use Rattle.domino.proofs.Keeping.{and-out, in-or-out}
 use Rattle.domino.proofs.Rows.{row-le, left-in-row, row-end}

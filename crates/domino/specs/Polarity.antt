@@ -1,10 +1,10 @@
 -- Conditions 2 and 4 speak of existential parts and of what is in (true); 3 and 5 of universal parts and of what is out (false).
 -- The code has one function for each two. Assumes nothing: these are definitions.
-use Prim.Native.Nat.{ℕ, _*_, _^_}
+use Prim.Native.Nat.{ℕ}
 use mathlib.Core.Bool.{Bool, true, false, not, _&&_, cond}
 use lib.Dec.{eqb}
 use Rattle.bitset.specs.Bits.{bit}
-use Rattle.elimination.specs.Sets.{every, some}
+use Rattle.elimination.specs.Sets.{every}
 use Rattle.semantics.specs.Dominoes.{Dominoes}
 use Rattle.semantics.specs.Conditions.{View, witness}
 

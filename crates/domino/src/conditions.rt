@@ -2,10 +2,10 @@
 ghost use mathlib.Core.Path.{_≡_};
 ghost use mathlib.Core.Bool.{true, false, not, _&&_};
 ghost use mathlib.Core.List.{[]};
-ghost use Prim.Native.Nat.{ℕ, _+_, _*_, _/_, _%_, _^_, _<_, _≤_};
+ghost use Prim.Native.Nat.{_+_, _*_, _/_, _%_, _<_};
 ghost use lib.ListN.{length};
 ghost use Rattle.bitset.specs.Bits.{bit, look};
-ghost use Rattle.semantics.specs.Dominoes.{total, number, Domino, numbered};
+ghost use Rattle.semantics.specs.Dominoes.{total, number, numbered};
 ghost use Rattle.semantics.specs.Conditions.{defectAt};
 ghost use Rattle.domino.specs.Tables.{inLabel, view, Sized, Room, Row};
 ghost use Rattle.domino.specs.Polarity.{is, kindFor, asks, breaks, fits, wants, found, witnessed, rowDefect};

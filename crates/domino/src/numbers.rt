@@ -1,6 +1,6 @@
 // The numbers of dominoes (a, r, b), for c parts and l roles, by shifts.
 ghost use mathlib.Core.Path.{_≡_};
-ghost use Prim.Native.Nat.{_+_, _*_, _/_, _%_, _^_, _<_, _≤_};
+ghost use Prim.Native.Nat.{_+_, _*_, _^_, _<_, _≤_};
 ghost use Rattle.semantics.specs.Dominoes.{total, number, leftOf, rolesOf, rightOf, inverse, wordsFor, Domino};
 
 // 2 to the k.

@@ -1,7 +1,6 @@
 -- The dominoes of an interpretation (002, Definition 3). Assumes nothing: these are definitions.
-use Prim.Native.Nat.{ℕ, zero, suc, _+_, _*_, _/_, _%_}
-use mathlib.Core.Bool.{Bool, true, false, not, _&&_, _||_, cond}
-use mathlib.Core.List.{List}
+use Prim.Native.Nat.{ℕ, _+_, _*_, _/_, _%_}
+use mathlib.Core.Bool.{Bool, false, not, _&&_, _||_, cond}
 use lib.ListN.{length}
 use lib.Dec.{eqb}
 use Rattle.bitset.specs.Bits.{word}

@@ -1,6 +1,6 @@
 -- What each call answers and leaves (01, "The calls, and what each refuses").
 use Prim.Native.Nat.{ℕ, _*_}
-use mathlib.Core.Bool.{Bool, true, false, cond}
+use mathlib.Core.Bool.{cond}
 use mathlib.Core.List.{List, [], _∷_, _++_}
 use mathlib.Core.Path.{_≡_}
 use lib.ListN.{length, drop}
@@ -11,7 +11,7 @@ use Rattle.tbox.specs.declared.ListAnswer.{ListAnswer}
 use Rattle.tbox.specs.declared.ListAnswer.the-variants.{Refused as NotListed, Listed}
 use Rattle.tbox.specs.Normal.{Tag}
 use Rattle.tbox.specs.Flatten.{Part, nameP, freshP, existsP, forallP}
-use Rattle.tbox.specs.Reading.{Kb, Reading, refusal, kb, partsOf, readKb}
+use Rattle.tbox.specs.Reading.{Reading, refusal, kb, partsOf}
 
 -- "c + L is at most 12"
 abbrev pub limit : ℕ

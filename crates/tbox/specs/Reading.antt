@@ -6,7 +6,7 @@ use lib.ListN.{length}
 use lib.Dec.{leb}
 use Rattle.tbox.specs.Scan.{State, Scanning, refused, whole, scanSheet}
 use Rattle.tbox.specs.Concepts.{Axiom, nodesOf, axiomsOf}
-use Rattle.tbox.specs.Flatten.{Flat, Part, Flattening, flatten}
+use Rattle.tbox.specs.Flatten.{Flat, Part, flatten}
 
 -- T, L and the axioms as written
 pub record Kb : Type 0 where

@@ -3,8 +3,8 @@ ghost use mathlib.Core.Path.{_≡_};
 ghost use Prim.Native.Nat.{_+_, _<_, _≤_, _^_, max};
 ghost use lib.ListN.{length, getD};
 ghost use Rattle.tbox.specs.Shapes.{shaped, shapeOf, isLeaf, isRestriction};
-ghost use Rattle.tbox.specs.Scan.{recordAt, orElse, numberFault, sortFault, againFault, referenceFault, naming, name, emptyFault, bodyFault, vacuousOf, namesAfter, rolesAfter, bodyByte, scanSheet};
-ghost use Rattle.tbox.specs.Tables.{entryOf, seen, view, flag, Body, Appended, Took, scanningOf};
+ghost use Rattle.tbox.specs.Scan.{recordAt, orElse, numberFault, sortFault, againFault, referenceFault, naming, name, emptyFault, vacuousOf, namesAfter, rolesAfter, bodyByte, scanSheet};
+ghost use Rattle.tbox.specs.Tables.{entryOf, seen, flag, Body, Appended, Took, scanningOf};
 
 // What a kind byte decides. Sorts: 0 none, 1 concept, 2 role, 3 axiom.
 pub struct Shape {

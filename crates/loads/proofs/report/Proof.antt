@@ -1,4 +1,3 @@
-use Rattle.tbox.specs.Promise.{Flattened}
 use native.Mathlib.Omega.{arith}
 use borrow.Author.Needs.{needs}
 use Rattle.loads.proofs.report.Statement.{statement}

@@ -3,7 +3,7 @@ use mathlib.Core.Bool.{false≢true}
 use borrow.Author.Needs.{needs}
 use mathlib.Core.Path.{_≡_, refl, sym as flip, ap, _∙_}
 use mathlib.Core.Logic.{⊎-elim}
-use Prim.Native.Nat.{ℕ, _+_, _-_, _*_, _^_, _≤_, _<_}
+use Prim.Native.Nat.{_+_, _-_, _^_, _≤_, _<_}
 use native.Mathlib.Nat.{add-zero, add-assoc}
 use native.Mathlib.Omega.{arith}
 use borrow.Author.Tests.{not-true, not-false}

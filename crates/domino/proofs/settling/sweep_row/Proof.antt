@@ -1,4 +1,4 @@
-use mathlib.Core.Path.{_≡_, refl, sym as flip, _∙_}
+use mathlib.Core.Path.{refl, sym as flip, _∙_}
 use native.Mathlib.Omega.{arith}
 use borrow.Author.Tests.{not-true}
 use Rattle.domino.proofs.Rows.{few-labels, row-fit, first-row, row-fits}

@@ -1,5 +1,5 @@
 -- The invariant: the words before j, four for each part.
-use Prim.Native.Nat.{_-_, _*_, _/_, _%_, _≤_}
+use Prim.Native.Nat.{_-_, _/_, _%_, _≤_}
 use mathlib.Core.Path.{_≡_}
 use lib.ListN.{getD}
 use native.Mathlib.Omega.{arith}

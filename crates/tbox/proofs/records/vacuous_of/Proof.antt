@@ -1,7 +1,5 @@
 use mathlib.Core.Path.{refl, ap, sym, _∙_}
 use mathlib.Core.Bool.{Bool, _&&_, _||_}
-use Rattle.tbox.specs.Scan.{recordAt}
-use Rattle.tbox.specs.Tables.{seen}
 use Rattle.tbox.proofs.Faults.{vacuous-not, vacuous-and, vacuous-or, vacuous-none}
 use borrow.Author.Needs.{needs}
 use Rattle.tbox.proofs.records.vacuous_of.Statement.{statement}

@@ -1,8 +1,6 @@
 -- Both tests, one after the other.
 use mathlib.Core.Bool.{false≢true}
-use native.Mathlib.Omega.{arith}
 use borrow.Author.Tests.{ltb-true}
-use borrow.Author.Needs.{needs}
 use Rattle.tbox.proofs.sharing.same_record.Statement.{statement}
 use Rattle.tbox.proofs.sharing.same_record.Tie as tie
 
