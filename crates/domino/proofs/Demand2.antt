@@ -24,7 +24,7 @@ use Rattle.semantics.specs.Views.{kbView}
 use Rattle.semantics.proofs.Truths.{is-true, of-true}
 use Rattle.semantics.proofs.Numbers.{number-lt, left-number}
 use Rattle.semantics.proofs.Defects.{lacks-monotone, defective-monotone}
-use Rattle.semantics.proofs.Canonical.{dominoesOf, of-domino, of-number, of-unnumbered, canon-stable, canon-largest, canon-sym}
+use Rattle.semantics.proofs.Canonical.{dominoesOf, of-domino, of-number, of-unnumbered, canon-stable, canon-largest, canon-sym, canon-begins}
 use Rattle.semantics.proofs.Verdict.{sheet-verdict, model-dominoes}
 use Rattle.domino.specs.Answers.{held, judgeSays, judgeLeaves}
 use Rattle.domino.specs.Demanded.{Demand2, NeverStranded, Demand2Models}
@@ -147,13 +147,12 @@ module _ (k : Kb) (ws : List ℕ) (h : held (kbView k) ≤ length ws) where
             survives B (inverse L R) A
             (canon-sym v A R B (flip (canon-number v A R B d) ∙ flip (judged (number c L A R B) (number-lt c L A R B d)) ∙ e));
         begins = λ n l e.
-            let A : ℕ = leftOf c L n in
-            let R : ℕ = inverse L (rolesOf c L n) in
             let B : ℕ = rightOf c n in
-            let s : canonDominoes v B R A ≡ true =
-            canon-sym v A (rolesOf c L n) B (canon-domino v n l (of-true (flip (judged n l) ∙ e))) in
-            let d = canon-range v B R A s in
-            (number c L B R A, number-lt c L B R A d, survives B R A s, left-number c L B R A d);
+            let w = canon-begins v (leftOf c L n) (rolesOf c L n) B (canon-domino v n l (of-true (flip (judged n l) ∙ e))) in
+            let R : ℕ = w .0 in
+            let C : ℕ = w .1 in
+            let d = canon-range v B R C (w .2) in
+            (number c L B R C, number-lt c L B R C d, survives B R C (w .2), left-number c L B R C d);
       }
 
 pub demand-2 : (sheet : List ℕ) (k : Kb) → readKb limit sheet ≡ kb k → (ws : List ℕ) → T (areWords ws)
