@@ -1,11 +1,12 @@
 //! The comparisons of one engine with the reference, by seed.
 
 use crate::dominoes::{Answer, Call, Tally};
+use crate::hex::Hex;
 use crate::random::Random;
 use crate::worked::Before;
 use crate::{claims, damage, few_axioms, made_up, reading, sequences, worked, Judging, Reading};
 use reference::domino::remove;
-use reference::{Strike, Verdict};
+use reference::{Refusal, Strike, Verdict};
 use std::io::{self, Write};
 use std::{env, fmt};
 
@@ -115,6 +116,9 @@ pub fn worked_numbers(engine: &impl Judging) {
         };
         assert_eq!(judgement, Ok(Answer::Judged(expected)), "{hex}");
     }
+    for ((hex, ..), (opened, settled)) in worked::JUDGED.into_iter().zip(worked::WORDS) {
+        worked_words(engine, &worked::from_hex(hex), opened, settled);
+    }
     for (hex, before, number, verdict) in worked::STRUCK {
         worked_strike(
             engine,
@@ -123,23 +127,54 @@ pub fn worked_numbers(engine: &impl Judging) {
             Strike { number, verdict },
         );
     }
-    let mut set = [7; 1];
-    assert_eq!(engine.open(&worked::from_hex(worked::S1), &mut set), Ok(32));
-    let refusal = engine.strike(&worked::from_hex(worked::S1), &mut set, 64);
-    assert_eq!(refusal.map_err(|refusal| refusal.number), Err(11));
+    strikes_in_a_row(engine);
     let twelve = worked::from_hex(worked::TWELVE);
     let mut set = vec![7; 262_144];
     let judgement = engine.judge(&twelve, &mut set);
     assert_eq!(judgement.map(|judgement| judgement.survivors), Ok(1 << 24));
     assert!(set.iter().all(|&word| word == u64::MAX));
-    for (hex, number, place) in worked::REFUSED {
+    for (hex, number, place) in worked::REFUSED.into_iter().chain([(worked::TWELVE, 10, 0)]) {
         let mut set = [7; 8];
-        let refusal = reference::Refusal { number, place };
+        let refusal = Refusal { number, place };
         let sheet = worked::from_hex(hex);
         assert_eq!(engine.open(&sheet, &mut set), Err(refusal), "{hex}");
+        assert_eq!(engine.strike(&sheet, &mut set, 0), Err(refusal), "{hex}");
+        assert_eq!(engine.settle(&sheet, &mut set), Err(refusal), "{hex}");
         assert_eq!(engine.judge(&sheet, &mut set), Err(refusal), "{hex}");
         assert_eq!(set, [7; 8]);
     }
+}
+
+/// The words that open, settle and judge leave, and that those beyond stay.
+fn worked_words(engine: &impl Judging, sheet: &[u8], opened: &[u64], settled: &[u64]) {
+    let leaves = |words: &[u64], before: [u64; 8]| [words, &before[words.len()..]].concat();
+    let before = [0x5555_5555_5555_5555; 8];
+    let mut set = before;
+    engine.open(sheet, &mut set).expect("a worked sheet");
+    assert_eq!(set[..], leaves(opened, before), "{}", Hex(sheet));
+    engine.settle(sheet, &mut set).expect("a worked sheet");
+    assert_eq!(set[..], leaves(settled, before), "{}", Hex(sheet));
+    let before = [u64::MAX; 8];
+    let mut set = before;
+    engine.judge(sheet, &mut set).expect("a worked sheet");
+    assert_eq!(set[..], leaves(settled, before), "{}", Hex(sheet));
+}
+
+/// Document 01's four strikes on S1, on one set.
+fn strikes_in_a_row(engine: &impl Judging) {
+    let sheet = worked::from_hex(worked::S1);
+    let mut set = [7; 4];
+    assert_eq!(engine.open(&sheet, &mut set), Ok(32));
+    for (_, _, number, verdict) in worked::STRUCK.into_iter().take(3) {
+        let strike = engine.strike(&sheet, &mut set, number);
+        assert_eq!(strike, Ok(Strike { number, verdict }));
+    }
+    let refusal = Refusal {
+        number: 11,
+        place: 0,
+    };
+    assert_eq!(engine.strike(&sheet, &mut set, 64), Err(refusal));
+    assert_eq!(set, [0xffff_fffe_0000_0000, 7, 7, 7]);
 }
 
 /// One strike: its verdict, and that it takes out that domino alone.

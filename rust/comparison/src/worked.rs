@@ -31,6 +31,22 @@ pub const JUDGED: [Judged; 8] = [
     ("03 00", 1, 4, 4, true),
 ];
 
+/// The words that open and then settle leave of each, worked out by a third
+/// program from a list of the dominoes and the conditions one by one.
+pub const WORDS: [(&[u64], &[u64]); 8] = [
+    (&[0x1], &[0x1]),
+    (&[0xffff_ffff_0000_0000], &[0xcccc_cccc_0000_0000]),
+    (&[0x0000_ffff_0000_0000], &[0]),
+    (&[0, 0xffff_ffff, 0, 0x0000_ffff_0000_ffff], &[0; 4]),
+    (&[0xff00], &[0]),
+    (&[0xffff_ffff_ffff_0000], &[0xcccc_cccc_0000_0000]),
+    (
+        &[0x0fff_0fff, u64::MAX, 0x0fff_0fff, 0xffff_ffff],
+        &[0x0d5d_0d5d, 0x5d5d_5d5d_5d5d_5d5d, 0x0c4c_0d5d, 0x4c4c_5d5d],
+    ),
+    (&[0xf], &[0xf]),
+];
+
 /// What a set holds before a strike.
 #[derive(Clone, Copy, Debug)]
 pub enum Before {
