@@ -1,22 +1,17 @@
 //! Lines come as slots do, no more is read than decides, and a failing input or
 //! output is told.
 
-use crate::program::{assert_same, command, path, piped, text};
+use super::QUEUE;
+use crate::program::{assert_same, text};
+use crate::running::Running;
 use comparison::queues::{slot, slots, END_KIND, SLOT, SLOT_KIND};
 use comparison::random::Random;
 use comparison::worked;
 use std::fs::{self, File};
-use std::io::{BufRead, BufReader, Read, Seek, Write};
-use std::os::fd::OwnedFd;
-use std::os::unix::net::UnixStream;
+use std::io::{Seek, Write};
 use std::path::Path;
-use std::process::{Child, ChildStdin, Command};
-use std::sync::mpsc::{self, Receiver, RecvTimeoutError};
 use std::thread;
-use std::time::{Duration, Instant};
-
-/// After so long a line or an end will not come.
-const PATIENCE: Duration = Duration::from_secs(20);
+use std::time::Duration;
 
 const INPUT_FAILED: &str = "queue: standard input cannot be read\n";
 const OUTPUT_FAILED: &str = "queue: standard output cannot be written\n";
@@ -25,81 +20,9 @@ fn s1_slot() -> Vec<u8> {
     slot(&worked::from_hex(worked::S1), &mut Random::seeded(70))
 }
 
-/// A running program whose lines are read as they come.
-struct Running {
-    child: Child,
-    lines: Receiver<String>,
-}
-
-impl Running {
-    fn start(command: &mut Command) -> Self {
-        Self::start_reading(usize::MAX, command)
-    }
-
-    /// Starts a program whose output is closed after so many lines.
-    fn start_reading(lines: usize, command: &mut Command) -> Self {
-        let mut child = command.spawn().expect("the program starts");
-        let stdout = child.stdout.take();
-        let (sender, receiver) = mpsc::channel();
-        thread::spawn(move || {
-            let read = stdout
-                .into_iter()
-                .flat_map(|out| BufReader::new(out).lines());
-            for line in read.take(lines) {
-                let _ = sender.send(line.expect("lines of text"));
-            }
-        });
-        Running {
-            child,
-            lines: receiver,
-        }
-    }
-
-    /// The input, which now stays open until it is dropped.
-    fn input(&mut self) -> ChildStdin {
-        self.child.stdin.take().expect("a piped input")
-    }
-
-    /// The next line, which must not wait for more input.
-    fn line(&self) -> String {
-        let line = self.lines.recv_timeout(PATIENCE);
-        line.expect("a line before more input")
-    }
-
-    /// Asserts that the output is closed and no line is left.
-    fn no_line(&self) {
-        let line = self.lines.recv_timeout(PATIENCE);
-        assert_eq!(line, Err(RecvTimeoutError::Disconnected));
-    }
-
-    /// Asserts that the program prints no more and ends, its input open or not;
-    /// answers what it complains of.
-    fn end(mut self) -> String {
-        self.no_line();
-        let start = Instant::now();
-        while self.child.try_wait().expect("a child").is_none() {
-            assert!(start.elapsed() < PATIENCE, "the program does not end");
-            thread::sleep(Duration::from_millis(1));
-        }
-        let mut complaint = String::new();
-        let mut stderr = self.child.stderr.take().expect("a piped standard error");
-        let read = stderr.read_to_string(&mut complaint);
-        read.expect("lines of text");
-        complaint
-    }
-}
-
-impl Drop for Running {
-    /// Leaves no program behind when an assertion failed.
-    fn drop(&mut self) {
-        let _ = self.child.kill();
-        let _ = self.child.wait();
-    }
-}
-
 #[test]
 fn lines_come_before_the_next_slot() {
-    let mut running = Running::start(&mut command());
+    let mut running = Running::start(&mut QUEUE.command());
     let mut input = running.input();
     for number in 0..50 {
         input.write_all(&s1_slot()).expect("a slot is taken");
@@ -114,7 +37,7 @@ fn lines_come_before_the_next_slot() {
 #[test]
 fn an_unknown_kind_ends_an_open_queue() {
     for slots in 0..2 {
-        let mut running = Running::start(&mut command());
+        let mut running = Running::start(&mut QUEUE.command());
         let mut input = running.input();
         for number in 0..slots {
             input.write_all(&s1_slot()).expect("a slot is taken");
@@ -129,7 +52,7 @@ fn an_unknown_kind_ends_an_open_queue() {
 /// The kind alone of a 4,097th slot ends an open queue.
 #[test]
 fn the_kind_of_a_4097th_slot_ends_an_open_queue() {
-    let mut running = Running::start(&mut command());
+    let mut running = Running::start(&mut QUEUE.command());
     let mut input = running.input();
     let slots = s1_slot().repeat(4_096);
     input.write_all(&slots).expect("the slots are taken");
@@ -148,7 +71,7 @@ fn printed_for_file(name: &str, queue: &[u8]) -> (String, u64) {
     fs::write(&path, queue).expect("a file is written");
     let mut file = File::open(&path).expect("a file is opened");
     let same = file.try_clone().expect("a second handle");
-    let output = command().stdin(same).output();
+    let output = QUEUE.command().stdin(same).output();
     let printed = text(output.expect("the program runs"));
     let read = file.stream_position().expect("a place in a file");
     fs::remove_file(&path).expect("a file is removed");
@@ -176,30 +99,19 @@ fn no_more_is_read_than_decides() {
 #[test]
 fn a_folder_cannot_be_read() {
     let folder = File::open(env!("CARGO_TARGET_TMPDIR")).expect("a folder");
-    let running = Running::start(command().stdin(folder));
+    let running = Running::start(QUEUE.command().stdin(folder));
     assert_eq!(running.end(), INPUT_FAILED);
 }
 
 #[test]
 fn a_closed_input_cannot_be_read() {
-    let mut shell = Command::new("/bin/sh");
-    shell.args(["-c", "exec \"$0\" <&-"]).arg(path());
-    let running = Running::start(piped(&mut shell));
+    let running = Running::start(&mut QUEUE.after("exec <&-;"));
     assert_eq!(running.end(), INPUT_FAILED);
 }
 
-/// Runs the program on an input that fails after some bytes: a stream whose
-/// other end goes away before it read what was sent to it.
 fn fails_after(bytes: &[u8], lines: &[&str]) {
-    let (mut ours, mut its) = UnixStream::pair().expect("a stream");
-    its.write_all(b"never read").expect("bytes are taken");
-    let running = Running::start(command().stdin(OwnedFd::from(its)));
-    ours.write_all(bytes).expect("bytes are taken");
-    for line in lines {
-        assert_eq!(running.line(), *line);
-    }
-    drop(ours);
-    assert_eq!(running.end(), INPUT_FAILED, "after {} bytes", bytes.len());
+    let complaint = Running::input_failing_after(bytes, lines, QUEUE);
+    assert_eq!(complaint, INPUT_FAILED, "after {} bytes", bytes.len());
 }
 
 #[test]
@@ -216,7 +128,7 @@ fn an_input_that_fails_later() {
 /// Runs the program with an output that takes nothing; its input stays open.
 fn fails_to_print(bytes: &[u8]) {
     let full = File::options().write(true).open("/dev/full");
-    let mut running = Running::start(command().stdout(full.expect("a full device")));
+    let mut running = Running::start(QUEUE.command().stdout(full.expect("a full device")));
     let mut input = running.input();
     input.write_all(bytes).expect("bytes are taken");
     assert_eq!(running.end(), OUTPUT_FAILED);
@@ -232,9 +144,7 @@ fn an_output_that_fails() {
 /// An output that is closed after a line, where writing to it is no signal.
 #[test]
 fn an_output_that_fails_later() {
-    let mut shell = Command::new("/bin/sh");
-    shell.args(["-c", "trap '' PIPE; exec \"$0\""]).arg(path());
-    let mut running = Running::start_reading(1, piped(&mut shell));
+    let mut running = Running::start_reading(1, &mut QUEUE.after("trap '' PIPE;"));
     let mut input = running.input();
     input.write_all(&s1_slot()).expect("a slot is taken");
     assert_eq!(running.line(), "0 met 16");

@@ -1,8 +1,8 @@
 //! Every length, as many slots as there may be, and every number of names and
 //! roles.
 
-use crate::lines::{slot_lines, whole};
-use crate::program::{assert_prints, report};
+use super::lines::{slot_lines, whole};
+use super::{report, QUEUE};
 use comparison::queues::{slot_telling, slots, END_KIND, LONGEST, SLOT_KIND};
 use comparison::random::Random;
 use comparison::worked;
@@ -42,7 +42,7 @@ fn each_length() {
         let mut queue = slots.collect::<Vec<_>>().concat();
         queue.push(END_KIND);
         let says: Vec<_> = part.iter().map(|&n| says_of_beginning(n)).collect();
-        comparisons += assert_prints(&queue, &whole(&says));
+        comparisons += QUEUE.assert_prints(&queue, &whole(&says));
     }
     report("each length", comparisons);
 }
@@ -53,20 +53,20 @@ fn the_longest_sheet_without_a_name() {
     sheet.extend([0x05, 0, 0].repeat(254));
     let mut queue = slots(&[sheet], &mut Random::seeded(51));
     queue.push(END_KIND);
-    let comparisons = assert_prints(&queue, &whole(&["met 1"]));
+    let comparisons = QUEUE.assert_prints(&queue, &whole(&["met 1"]));
     report("the longest sheet without a name", comparisons);
 }
 
 #[test]
 fn few_slots() {
     let none = "sheets 0 met 0 unmet 0 refused 0 survivors 0\n";
-    let mut comparisons = assert_prints(&[END_KIND], none);
-    comparisons += assert_prints(&[], "refused 15\n");
+    let mut comparisons = QUEUE.assert_prints(&[END_KIND], none);
+    comparisons += QUEUE.assert_prints(&[], "refused 15\n");
     let mut queue = slots(&[worked::from_hex(worked::S1)], &mut Random::seeded(52));
-    comparisons += assert_prints(&queue, "0 met 16\nrefused 15\n");
+    comparisons += QUEUE.assert_prints(&queue, "0 met 16\nrefused 15\n");
     queue.push(END_KIND);
     let one = "0 met 16\nsheets 1 met 1 unmet 0 refused 0 survivors 16\n";
-    comparisons += assert_prints(&queue, one);
+    comparisons += QUEUE.assert_prints(&queue, one);
     report("few slots", comparisons);
 }
 
@@ -79,7 +79,7 @@ fn the_largest_totals() {
     queue.push(END_KIND);
     let totals = "sheets 4096 met 4096 unmet 0 refused 0 survivors 1073741824\n";
     let lines = slot_lines(&["met 262144"; MOST_SLOTS]);
-    let comparisons = assert_prints(&queue, &(lines + totals));
+    let comparisons = QUEUE.assert_prints(&queue, &(lines + totals));
     report("the largest totals", comparisons);
 }
 
@@ -102,7 +102,7 @@ fn after_the_most_slots() {
     let mut comparisons = 0;
     for (end, line) in ends {
         let queue = [&queue[..], &end].concat();
-        comparisons += assert_prints(&queue, &(lines.clone() + line));
+        comparisons += QUEUE.assert_prints(&queue, &(lines.clone() + line));
     }
     report("after 4,096 slots", comparisons);
 }
@@ -137,6 +137,6 @@ fn each_number_of_names_and_roles() {
     let mut queue = slots(&sheets, &mut Random::seeded(55));
     queue.push(END_KIND);
     let says: Vec<_> = sizes.iter().map(|(n, r)| says_of_size(n + r)).collect();
-    let comparisons = assert_prints(&queue, &whole(&says));
+    let comparisons = QUEUE.assert_prints(&queue, &whole(&says));
     report("each number of names and roles", comparisons);
 }

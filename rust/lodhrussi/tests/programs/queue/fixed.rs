@@ -1,7 +1,8 @@
 //! Queues of which every line is given.
 
-use crate::lines::whole;
-use crate::program::{assert_prints, assert_same, printed_for_chunks, report};
+use super::lines::whole;
+use super::{report, QUEUE};
+use crate::program::assert_same;
 use comparison::queues::{
     slot, slot_telling, slots, worked_slots, END_KIND, LONGEST, SLOT, SLOT_KIND, WORKED,
 };
@@ -27,7 +28,7 @@ fn refused_after(slots: usize) -> String {
 #[test]
 fn the_worked_queue() {
     let queue = then(&two_slots(), &[END_KIND]);
-    let comparisons = assert_prints(&queue, &WORKED.concat());
+    let comparisons = QUEUE.assert_prints(&queue, &WORKED.concat());
     report("the worked queue", comparisons);
 }
 
@@ -36,7 +37,7 @@ fn the_worked_queue_in_chunks() {
     let queue = then(&two_slots(), &[END_KIND]);
     let mut comparisons = 0;
     for size in [1, 2, 3, 7, 61, 255, 257, 766, 767, 768, 769, 770, 1_537] {
-        let printed = printed_for_chunks(queue.chunks(size), Duration::from_micros(100));
+        let printed = QUEUE.printed_for_chunks(queue.chunks(size), Duration::from_micros(100));
         comparisons += assert_same(&printed, &WORKED.concat());
     }
     report("in chunks", comparisons);
@@ -52,7 +53,7 @@ fn the_worked_sheets() {
                     7 met 4\n8 refused 10\n9 refused 4\n10 refused 9\n11 refused 5\n\
                     12 refused 7\n13 refused 8\n\
                     sheets 14 met 5 unmet 3 refused 6 survivors 122\n";
-    let comparisons = assert_prints(&queue, expected);
+    let comparisons = QUEUE.assert_prints(&queue, expected);
     report("worked sheets", comparisons);
 }
 
@@ -69,7 +70,7 @@ fn sheets_that_repeat_claims() {
             survivors => format!("met {survivors}"),
         })
         .collect();
-    let comparisons = assert_prints(&queue, &whole(&says));
+    let comparisons = QUEUE.assert_prints(&queue, &whole(&says));
     report("sheets that repeat claims", comparisons);
 }
 
@@ -94,7 +95,7 @@ fn each_refusal_of_a_slot() {
         .map(|(number, _)| format!("refused {number}"));
     let mut queue = slots(&sheets.map(|(_, sheet)| sheet), &mut random);
     queue.push(END_KIND);
-    let comparisons = assert_prints(&queue, &whole(&says));
+    let comparisons = QUEUE.assert_prints(&queue, &whole(&says));
     report("each refusal of a slot", comparisons);
 }
 
@@ -103,7 +104,7 @@ fn a_cut_at_each_byte() {
     let queue = two_slots();
     let mut comparisons = 0;
     for end in 0..=queue.len() {
-        comparisons += assert_prints(&queue[..end], &refused_after(end / SLOT));
+        comparisons += QUEUE.assert_prints(&queue[..end], &refused_after(end / SLOT));
     }
     report("cut at each byte", comparisons);
 }
@@ -115,11 +116,11 @@ fn a_cut_at_each_byte_of_a_slot_too_long() {
     let long = slot_telling(LONGEST + 1, &[], &mut random);
     let mut comparisons = 0;
     for end in 1..SLOT {
-        comparisons += assert_prints(&then(&first, &long[..end]), &refused_after(1));
+        comparisons += QUEUE.assert_prints(&then(&first, &long[..end]), &refused_after(1));
     }
     let expected = "0 met 16\n1 refused 14\n\
                     sheets 2 met 1 unmet 0 refused 1 survivors 16\n";
-    comparisons += assert_prints(&[&first[..], &long, &[END_KIND]].concat(), expected);
+    comparisons += QUEUE.assert_prints(&[&first[..], &long, &[END_KIND]].concat(), expected);
     report("a slot too long, cut at each byte", comparisons);
 }
 
@@ -129,8 +130,8 @@ fn each_unknown_kind() {
     let mut comparisons = 0;
     for kind in (0..=u8::MAX).filter(|kind| ![SLOT_KIND, END_KIND].contains(kind)) {
         let more = then(&[kind, END_KIND], &queue);
-        comparisons += assert_prints(&more, &refused_after(0));
-        comparisons += assert_prints(&then(&queue[..SLOT], &more), &refused_after(1));
+        comparisons += QUEUE.assert_prints(&more, &refused_after(0));
+        comparisons += QUEUE.assert_prints(&then(&queue[..SLOT], &more), &refused_after(1));
     }
     report("unknown kinds", comparisons);
 }
@@ -152,8 +153,8 @@ fn bytes_after_the_end() {
     for rest in rests {
         let ended = then(&[END_KIND], &rest);
         let none = "sheets 0 met 0 unmet 0 refused 0 survivors 0\n";
-        comparisons += assert_prints(&ended, none);
-        comparisons += assert_prints(&then(&queue, &ended), &WORKED.concat());
+        comparisons += QUEUE.assert_prints(&ended, none);
+        comparisons += QUEUE.assert_prints(&then(&queue, &ended), &WORKED.concat());
     }
     report("bytes after the end", comparisons);
 }

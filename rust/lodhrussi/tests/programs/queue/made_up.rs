@@ -1,7 +1,8 @@
 //! Queues of made-up sheets, against the reference and the product's judge.
 
-use crate::lines::whole;
-use crate::program::{assert_same, printed, printed_for_chunks};
+use super::lines::whole;
+use super::QUEUE;
+use crate::program::assert_same;
 use comparison::queues::{
     any_sheet, large_sheet, slots, Tally, END_KIND, LONGEST, SLOT, SLOT_KIND,
 };
@@ -42,7 +43,7 @@ fn any_end(random: &mut Random) -> Vec<u8> {
 fn compare(sheets: &[Vec<u8>], tally: &mut Tally, random: &mut Random) -> Vec<String> {
     let queue = [slots(sheets, random), any_end(random)].concat();
     let chunk = 1 + random.below(5_000);
-    let printed = printed_for_chunks(queue.chunks(chunk), Duration::ZERO);
+    let printed = QUEUE.printed_for_chunks(queue.chunks(chunk), Duration::ZERO);
     tally.comparisons += assert_same(&printed, &reference::queue::printed(&queue));
     tally.count(&printed);
     let lines = printed.lines().take(sheets.len()).enumerate();
@@ -73,7 +74,7 @@ fn compare_in_any_order(
     random.shuffle(&mut order);
     let moved: Vec<_> = order.iter().map(|&from| &sheets[from]).collect();
     let says: Vec<_> = order.iter().map(|&from| &says[from]).collect();
-    let printed = printed(&[slots(&moved, random), vec![END_KIND]].concat());
+    let printed = QUEUE.printed(&[slots(&moved, random), vec![END_KIND]].concat());
     tally.comparisons += assert_same(&printed, &whole(&says));
     tally.count(&printed);
 }
