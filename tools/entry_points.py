@@ -15,14 +15,14 @@ from pathlib import Path
 ROOT = Path(__file__).resolve().parent.parent
 
 PRODUCT = {"tbox", "domino", "capi"}
-LAYER = {"bitset", "report", "console"}
+LAYER = {"bitset", "records", "flattening", "domino_conditions", "domino_initial", "domino_settling", "report", "console"}
 # Public functions without an ensures, and why.
 WITHOUT_ENSURES = {
     "console::complain": "it answers nothing and leaves nothing: what the system takes is not in the kit's contract of write",
 }
 LONGEST = 144
 # Crates that have longer clauses still. To be emptied.
-STILL_LONG = {"tbox", "domino", "capi"}
+STILL_LONG = {"domino_initial", "domino_settling", "capi"}
 
 # What is no code: strings and characters, and comments.
 QUIET = re.compile(r"""b?"(?:\\.|[^"\\])*"|b'(?:\\.|[^'\\])+'|//[^\n]*""")

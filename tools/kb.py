@@ -10,6 +10,8 @@ WORKED = [
     "01 0300 1000 080200 060103 200004",
     "0300 1000 0400 070102 200003",
 ]
+# Fillers that are no part.
+EVERYTHING, NOTHING = 256, 257
 BODY = {1: 0, 2: 0, 3: 1, 4: 1, 5: 2, 6: 2, 7: 2, 8: 2, 0x10: 1, 0x11: 1, 0x12: 1, 0x13: 2, 0x14: 2, 0x20: 2}
 
 
@@ -57,7 +59,7 @@ def flatten(rs, names):
         kind, role, filler = c
         number = len(parts)
         if filler[0] in ("all", "none", "name"):
-            code = {"all": 254, "none": 255}.get(filler[0]) or filler[-1]
+            code = {"all": EVERYTHING, "none": NOTHING}.get(filler[0]) or filler[-1]
             first = claims.setdefault((kind, spelled(rs, role), code), number)
             if first < number:
                 return ("name", first)

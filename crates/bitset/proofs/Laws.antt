@@ -1,14 +1,16 @@
--- Laws of the word of a set: its bits are the set, and the operations on words are those on sets. Assumes nothing.
+-- Laws of the word of a set: its bits are the set, and the operations on words are those on sets.
 use mathlib.Core.Path.{_≡_, refl, sym, ap, ap₂, subst, _∙_}
 use mathlib.Core.Bool.{Bool, true, false, cond, not, _&&_, _||_}
-use Prim.Native.Nat.{ℕ, zero, suc, _+_, _-_, _*_, _/_, _%_, _^_, _≤_, _<_}
+use Prim.Native.Nat.{ℕ, zero, suc, _+_, _-_, _*_, _/_, _%_, _^_, _≤_, _<_, min}
 use native.Mathlib.Nat.{mod-lt, pow-suc, le-refl, lt-of-lt-of-le, div-eq-of-lt}
 use native.Mathlib.Decide.{ℕ-discrete}
 use native.Mathlib.Omega.{arith}
-use lib.Dec.{eqb}
+use lib.Dec.{eqb, ltb, ltb→lt, nltb→le}
 use lib.Pow.{pow-pos, pow-mono, high, low, split, field, mod-mod-pow, shr-lt, shr-shr}
-use lib.Bits.{bitAnd, bitOr, and-block, or-block}
+use lib.Bits.{bitAnd, bitOr, and-block, or-block, and-shr, and-step}
+use borrow.Author.Tests.{lt-ltb, le-ltb}
 use Rattle.bitset.specs.Bits.{bit, word, wordAt}
+use Rattle.bitset.proofs.Facts.{either, and-in, and-out}
 
 -- ---- one digit
 
@@ -198,3 +200,29 @@ column-past p w h l =
     column-high p w (omega arith)
     ∙ wordAt-ext (λ n. bit w (p - 6)) (λ n. false) 0 (λ n. bit-past 64 w (p - 6) h (omega arith))
     ∙ wordAt-none 0
+
+-- ---- the bits of two numbers, and the lowest bits alone
+
+both : (x y : ℕ) → x < 2 → y < 2 → eqb (min x y) 1 ≡ (eqb x 1 && eqb y 1)
+both zero y h k = let e : min 0 y ≡ 0 = omega arith in ap (λ (z : ℕ). eqb z 1) e
+both (suc zero) zero h k = refl
+both (suc zero) (suc zero) h k = refl
+both (suc zero) (suc (suc y)) h k = absurd (omega arith)
+both (suc (suc x)) y h k = absurd (omega arith)
+
+pub bit-and : (x y k : ℕ) → bit (bitAnd x y) k ≡ (bit x k && bit y k)
+bit-and x y k =
+    let e : bitAnd x y / 2 ^ k % 2 ≡ min (x / 2 ^ k % 2) (y / 2 ^ k % 2) =
+    rw (and-shr x y k) (omega (arith, and-step (x / 2 ^ k) (y / 2 ^ k))) in
+    ap (λ (z : ℕ). eqb z 1) e ∙ both (x / 2 ^ k % 2) (y / 2 ^ k % 2) (omega arith) (omega arith)
+
+pub low-bits : (w n k : ℕ) → bit (w % 2 ^ n) k ≡ (bit w k && ltb k n)
+low-bits w n k =
+    either (ltb k n)
+    (λ t.
+    let l = ltb→lt k n t in
+    sym (bit-low (w / 2 ^ n) (w % 2 ^ n) n k (mod-lt w (pow-pos n)) l) ∙ ap (λ (x : ℕ). bit x k) (split w n)
+    ∙ sym (and-in (bit w k) (ltb k n) (lt-ltb k n l)))
+    (λ t.
+    let l : n ≤ k = nltb→le k n t in
+    bit-past n (w % 2 ^ n) k (mod-lt w (pow-pos n)) l ∙ sym (and-out (bit w k) (ltb k n) (le-ltb k n l)))

@@ -1,4 +1,4 @@
--- Laws of sets in lists of words: the words of a set have its members, a list of words is that of its members, and one number is put in or taken out. Assumes nothing.
+-- Laws of sets in lists of words: the words of a set have its members, a list of words is that of its members, and one number is put in or taken out.
 use mathlib.Core.Path.{_≡_, refl, sym, ap, ap₂, subst, _∙_}
 use mathlib.Core.Bool.{Bool, true, false, cond, not, _&&_, _||_}
 use mathlib.Core.List.{List, [], _∷_, _++_}

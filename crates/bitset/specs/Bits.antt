@@ -1,4 +1,4 @@
--- Sets of numbers as binary digits: of one number, and of words of 64. Assumes nothing: these are definitions.
+-- Sets of numbers as binary digits: of one number, and of words of 64.
 use Prim.Native.Nat.{ℕ, zero, suc, _+_, _*_, _/_, _%_, _^_}
 use mathlib.Core.Bool.{Bool, true, cond, not, _&&_, _||_}
 use mathlib.Core.List.{List, [], _∷_}
@@ -60,3 +60,7 @@ size (suc n) D = cond (D n) 1 0 + size n D
 unfoldable pub onesOf : List ℕ → ℕ
 onesOf [] = 0
 onesOf (w ∷ ws) = ones w + onesOf ws
+
+-- the words that hold N numbers. 01: "Words needed: 2^(2c+2L) / 64, but at least 1"
+abbrev pub wordsFor : ℕ → ℕ
+wordsFor N = (N + 63) / 64

@@ -1,4 +1,4 @@
--- Calls that say the same leave the same numbers. Assumes nothing.
+-- Calls that say the same leave the same numbers.
 use Prim.Native.Nat.{ℕ}
 use mathlib.Core.Path.{_≡_, refl, sym, ap, _∙_}
 use mathlib.Core.Bool.{Bool, true, false, cond}

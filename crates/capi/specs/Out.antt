@@ -1,5 +1,5 @@
 -- What the exported functions return and write, by what the call says: the refusal's number (0 for none), its place, then the
--- values; a refusal has no values. Assumes nothing: these are definitions.
+-- values; a refusal has no values.
 use Prim.Native.Nat.{ℕ, _+_}
 use mathlib.Core.List.{List, [], _∷_}
 use lib.ListN.{getD}

@@ -2,10 +2,9 @@
 // refusal writes its place, a call that is done its values.
 ghost use mathlib.Core.Path.{_≡_};
 ghost use lib.ListN.{getD};
-ghost use Rattle.tbox.specs.Reading.{readKb};
-ghost use Rattle.tbox.specs.Answers.{limit, readSays, listSays, listLeaves};
-ghost use Rattle.domino.specs.Answers.{openSays, strikeSays, settleSays, judgeSays, verdictNumbers};
-ghost use Rattle.domino.specs.Answers.{openLeaves, strikeLeaves, settleLeaves, judgeLeaves};
+ghost use Rattle.syntax.specs.Reading.{readKb};
+ghost use Rattle.syntax.specs.Answers.{limit, readSays, listSays, listLeaves};
+ghost use Rattle.domino.specs.Answers.{openSays, strikeSays, settleSays, judgeSays, verdictNumbers, openLeaves, strikeLeaves, settleLeaves, judgeLeaves};
 ghost use Rattle.capi.specs.Out.{resultOut, placeOut, valueOut};
 use domino::JudgeAnswer;
 use domino::OpenAnswer;

@@ -1,4 +1,4 @@
--- The count of what was read. Assumes nothing.
+-- The count of what was read.
 use Prim.Native.Nat.{ℕ}
 use mathlib.Core.Path.{_≡_, subst}
 use mathlib.Core.List.{List}

@@ -1,4 +1,4 @@
--- What reading from standard input answers. Which bytes are read no contract can say. Assumes nothing: these are definitions.
+-- What reading from standard input answers. Which bytes are read no contract can say.
 use mathlib.Core.List.{List}
 use Prim.Native.Nat.{ℕ}
 use Rattle.io.specs.Counts.{Counts}

@@ -1,60 +1,57 @@
 -- Demand 1: the refusals of open, strike, settle and judge, their order and places, and that they leave the words as they are; and
--- the words past those needed, which no call touches. Assumes nothing.
+-- the words past those needed, which no call touches.
 use mathlib.Core.Path.{_≡_, refl, sym as flip, ap, ap₂, subst, _∙_}
-use mathlib.Core.Logic.{⊎-elim}
+use mathlib.Core.Logic.{inl, _↔_}
 use mathlib.Core.Bool.{Bool, true, false, _&&_, cond}
-use mathlib.Core.List.{List, [], _∷_, _++_}
-use Prim.Native.Nat.{ℕ, _*_, _/_, _%_, _≤_, _<_}
+use mathlib.Core.List.{List, [], _∷_}
+use Prim.Native.Nat.{ℕ, _≤_, _<_}
 use native.Mathlib.Omega.{arith}
-use lib.Dec.{ltb, eqb}
-use lib.ListN.{length, getD, drop}
-use lib.Seq.{drop-set-lt}
+use lib.Dec.{ltb}
+use lib.ListN.{length, drop}
 use borrow.Author.Tests.{ltb-true, ltb-false}
-use Rattle.bitset.specs.Bits.{Set, look, bit, word, without, cleared, size}
-use Rattle.bitset.proofs.Words.{words-same}
-use Rattle.elimination.specs.Sets.{below, Same}
+use Rattle.bitset.specs.Bits.{Set, look, cleared}
+use Rattle.elimination.specs.Sets.{Same}
 use Rattle.elimination.specs.Elimination.{settled}
-use Rattle.elimination.specs.Calls.{written, strikeWords, settleWords}
+use Rattle.elimination.specs.Calls.{written, strikeWords}
 use Rattle.elimination.proofs.Settling.{settled-same}
-use Rattle.tbox.specs.Reading.{Kb, Reading, refusal, kb, readKb}
-use Rattle.tbox.specs.Answers.{limit}
-use Rattle.tbox.proofs.Promised.{refusal-cases, refusal-number, refusal-place}
-use Rattle.semantics.specs.Conditions.{View, dominoes, initial, defective, canon}
+use Rattle.elimination.proofs.Written.{strike-long, written-long, written-past, written-look, written-same, written-again, strike-past}
+use Rattle.syntax.specs.Reading.{Kb, Reading, refusal, kb, readKb, isRecordFault, isReadRefusal}
+use Rattle.syntax.specs.Answers.{limit}
+use Rattle.syntax.proofs.Promised.{one-more, one-wider, read-refusals, refusal-number, refusal-place, refusal-nowhere}
+use Rattle.semantics.specs.Conditions.{View, dominoes, initial, defective, canon, held}
 use Rattle.semantics.specs.Views.{kbView}
 use Rattle.semantics.proofs.Defects.{defective-monotone}
-use Rattle.domino.specs.Answers.{held, isShort, verdictNumbers, verdictOf, openSays, openLeaves, strikeSays, strikeLeaves, settleSays, settleLeaves, judgeSays, judgeLeaves}
+use Rattle.domino.specs.Answers.{isShort, isSetRefusal, isStrikeRefusal, saysOnSet, leavesOnSet, verdictNumbers, verdictOf, openSays, openLeaves, strikeSays, strikeLeaves, settleSays, settleLeaves, judgeSays, judgeLeaves}
 use Rattle.domino.specs.Demanded.{refusalOf, placeOf, Refuses, Demand1, Demand1Done}
-use Rattle.domino.proofs.Saying.{held-room, held-some, written-long, written-look, written-past, open-says, open-leaves, strike-says, strike-beyond, settle-says, settle-leaves, judge-says, judge-leaves, strike-long}
+use Rattle.domino.proofs.OnSet.{says-refused, leaves-refused, says-short, leaves-short, says-enough, leaves-enough}
+use Rattle.domino.proofs.WordsEnough.{held-room, held-some, open-says, open-leaves, strike-says, strike-beyond, settle-says, settle-leaves, judge-says, judge-leaves}
 
--- ---- the words past those needed
+-- ---- the numbers of refusals are those of an interval
 
-drop-strike : (k N : ℕ) (defective : Set → ℕ → Bool) (n : ℕ) (ws : List ℕ) → N ≤ 64 * k → drop k (strikeWords N defective n ws) ≡ drop k ws
-unfolding cleared
-drop-strike k N defective n ws r = go (ltb n N) refl (look ws n && defective (look ws) n)
-  where
-    go : (a : Bool) → ltb n N ≡ a → (b : Bool) → drop k (cond (a && b) (cleared ws n) ws) ≡ drop k ws
-    go true q true =
-        let h : n < N = ltb-true n N q in
-        drop-set-lt k ws (n / 64) (word 64 (without (bit (getD ws (n / 64) 0)) (n % 64))) (omega arith)
-    go true q false = refl
-    go false q b = refl
+pub set-refusals : (n : ℕ) → (isSetRefusal n ≡ true) ↔ ((1 ≤ n) × (n ≤ 10))
+unfolding isSetRefusal
+set-refusals n = one-wider isReadRefusal 9 n (read-refusals n)
 
--- ---- the cases of a call, whose refusals go up to `last`
+pub strike-refusals : (n : ℕ) → (isStrikeRefusal n ≡ true) ↔ ((1 ≤ n) × (n ≤ 11))
+unfolding isStrikeRefusal
+strike-refusals n = one-wider isSetRefusal 10 n (set-refusals n)
 
-module _ (last : ℕ) (ten : 10 ≤ last) (sheet ws : List ℕ) where
+-- ---- the cases of a call that refuses with the numbers `refusals`, those of every call on a set among them
+
+module _ (refusals : ℕ → Bool) (those : (n : ℕ) → isSetRefusal n ≡ true → refusals n ≡ true) (sheet ws : List ℕ) where
   -- the sheet is refused
-  from-refusal : (n p : ℕ) → readKb limit sheet ≡ refusal n p → Refuses last sheet ws (n ∷ p ∷ []) ws
+  from-refusal : (n p : ℕ) → readKb limit sheet ≡ refusal n p → Refuses refusals sheet ws (n ∷ p ∷ []) ws
+  unfolding isSetRefusal
   from-refusal n p e =
       record {
         read = λ m q f.
             let i : n ≡ m = cc in
             let j : p ≡ q = cc in
-            let r = refusal-number limit sheet f in
-            (ap₂ (λ (a b : ℕ). a ∷ b ∷ []) i j, r .0, r .1);
+            (ap₂ (λ (a b : ℕ). a ∷ b ∷ []) i j, refusal-number limit sheet f);
         short = λ k f l. let z : _≡_ {A = ℕ} 0 1 = cc in absurd (omega arith);
-        inside = λ a b. refusal-place limit sheet e b;
-        nowhere = λ a. ⊎-elim (λ f. absurd (omega (arith, f .1))) (λ f. f .1) (refusal-cases limit sheet e);
-        among = omega (arith, ten, refusal-number limit sheet e);
+        inside = refusal-place limit sheet e;
+        nowhere = refusal-nowhere limit sheet e;
+        among = λ a. those n (one-more (isReadRefusal n) n 10 .1 (inl (refusal-number limit sheet e)));
         untouched = λ a. refl;
         long = refl;
         past = λ k f. refl;
@@ -62,14 +59,15 @@ module _ (last : ℕ) (ten : 10 ≤ last) (sheet ws : List ℕ) where
 
   module _ (k : Kb) (e : readKb limit sheet ≡ kb k) where
     -- the words are too few
-    from-short : Refuses last sheet ws (10 ∷ 0 ∷ []) ws
+    from-short : Refuses refusals sheet ws (10 ∷ 0 ∷ []) ws
+    unfolding isRecordFault isReadRefusal isSetRefusal
     from-short =
         record {
           read = λ n p f. let z : _≡_ {A = ℕ} 0 1 = cc in absurd (omega arith);
           short = λ j f l. refl;
-          inside = λ a b. absurd (omega arith);
+          inside = λ a. let z : _≡_ {A = ℕ} 0 1 = cc in absurd (omega arith);
           nowhere = λ a. refl;
-          among = ten;
+          among = λ a. those 10 refl;
           untouched = λ a. refl;
           long = refl;
           past = λ j f. refl;
@@ -77,104 +75,99 @@ module _ (last : ℕ) (ten : 10 ≤ last) (sheet ws : List ℕ) where
 
     -- they are enough
     from-enough : (says after : List ℕ) → held (kbView k) ≤ length ws → placeOf says ≡ 0
-        → (1 ≤ refusalOf says → refusalOf says ≤ 8 → ⊥) → refusalOf says ≤ last → ((refusalOf says ≡ 0 → ⊥) → after ≡ ws)
-        → length after ≡ length ws → drop (held (kbView k)) after ≡ drop (held (kbView k)) ws → Refuses last sheet ws says after
-    from-enough says after h place number among same long past =
+        → isRecordFault (refusalOf says) ≡ false → ((refusalOf says ≡ 0 → ⊥) → (refusals (refusalOf says) ≡ true) × (after ≡ ws))
+        → length after ≡ length ws → drop (held (kbView k)) after ≡ drop (held (kbView k)) ws → Refuses refusals sheet ws says after
+    from-enough says after h place number refused long past =
         record {
           read = λ n p f. let z : _≡_ {A = ℕ} 0 1 = cc in absurd (omega arith);
           short = λ j f l.
               let i : k ≡ j = cc in
               let m : length ws < held (kbView k) = subst (λ (x : Kb). length ws < held (kbView x)) (flip i) l in
               absurd (omega arith);
-          inside = λ a b. absurd (number a b);
+          inside = λ a. let z : _≡_ {A = ℕ} 0 1 = cc in absurd (omega arith);
           nowhere = λ a. place;
-          among = among;
-          untouched = same;
+          among = λ a. refused a .0;
+          untouched = λ a. refused a .1;
           long = long;
           past = λ j f. let i : k ≡ j = cc in subst (λ (x : Kb). drop (held (kbView x)) after ≡ drop (held (kbView x)) ws) i past;
         }
 
     -- an answer that is no refusal
     from-done : (says after : List ℕ) → held (kbView k) ≤ length ws
-        → length after ≡ length ws → drop (held (kbView k)) after ≡ drop (held (kbView k)) ws → Refuses last sheet ws (0 ∷ 0 ∷ says) after
-    from-done says after h = from-enough (0 ∷ 0 ∷ says) after h refl (λ a b. omega arith) (omega arith) (λ a. absurd (a refl))
+        → length after ≡ length ws → drop (held (kbView k)) after ≡ drop (held (kbView k)) ws → Refuses refusals sheet ws (0 ∷ 0 ∷ says) after
+    unfolding isRecordFault
+    from-done says after h = from-enough (0 ∷ 0 ∷ says) after h refl refl (λ a. absurd (a refl))
 
     written-done : (says : List ℕ) (D : Set) → held (kbView k) ≤ length ws
-        → Refuses last sheet ws (0 ∷ 0 ∷ says) (written (held (kbView k)) (dominoes (kbView k)) D ws)
+        → Refuses refusals sheet ws (0 ∷ 0 ∷ says) (written (held (kbView k)) (dominoes (kbView k)) D ws)
     written-done says D h =
         from-done says (written (held (kbView k)) (dominoes (kbView k)) D ws) h
         (written-long (held (kbView k)) (dominoes (kbView k)) D ws h) (written-past (held (kbView k)) (dominoes (kbView k)) D ws)
 
+  -- a call that does so with words enough does so with any
+  from-any : (says leaves : Kb → List ℕ → List ℕ)
+      → ((k : Kb) → readKb limit sheet ≡ kb k → held (kbView k) ≤ length ws → Refuses refusals sheet ws (says k ws) (leaves k ws))
+      → (s : Reading) → readKb limit sheet ≡ s → Refuses refusals sheet ws (saysOnSet says s ws) (leavesOnSet leaves s ws)
+  from-any says leaves f (refusal n p) e = rw (says-refused says ws n p, leaves-refused leaves ws n p) (from-refusal n p e)
+  from-any says leaves f (kb k) e = go (isShort k ws) refl
+    where
+      go : (b : Bool) → isShort k ws ≡ b → Refuses refusals sheet ws (saysOnSet says (kb k) ws) (leavesOnSet leaves (kb k) ws)
+      go true q =
+          let h : length ws < held (kbView k) = ltb-true (length ws) (held (kbView k)) q in
+          rw (says-short says ws k h, leaves-short leaves ws k h) (from-short k e)
+      go false q =
+          let h : held (kbView k) ≤ length ws = ltb-false (length ws) (held (kbView k)) q in
+          rw (says-enough says ws k h, leaves-enough leaves ws k h) (f k e h)
+
 -- ---- the calls
 
+struck-too : (n : ℕ) → isSetRefusal n ≡ true → isStrikeRefusal n ≡ true
+unfolding isStrikeRefusal
+struck-too n e = rw e
+
 module _ (sheet ws : List ℕ) where
-  open-refuses : (s : Reading) → readKb limit sheet ≡ s → Refuses 10 sheet ws (openSays s ws) (openLeaves s ws)
+  open-refuses : Refuses isSetRefusal sheet ws (openSays (readKb limit sheet) ws) (openLeaves (readKb limit sheet) ws)
   unfolding openSays openLeaves
-  open-refuses (refusal n p) e = from-refusal 10 (omega arith) sheet ws n p e
-  open-refuses (kb k) e = go (isShort k ws) refl
-    where
-      go : (b : Bool) → isShort k ws ≡ b
-          → Refuses 10 sheet ws (cond b (10 ∷ 0 ∷ []) (0 ∷ 0 ∷ size (dominoes (kbView k)) (initial (kbView k)) ∷ []))
-          (cond b ws (written (held (kbView k)) (dominoes (kbView k)) (initial (kbView k)) ws))
-      go true q = from-short 10 (omega arith) sheet ws k e
-      go false q = written-done 10 (omega arith) sheet ws k e _ (initial (kbView k)) (ltb-false (length ws) (held (kbView k)) q)
+  open-refuses =
+      from-any isSetRefusal (λ n e. e) sheet ws _ _ (λ k e h. written-done isSetRefusal (λ n e. e) sheet ws k e _ (initial (kbView k)) h) (readKb limit sheet) refl
 
-  strike-refuses : (n : ℕ) (s : Reading) → readKb limit sheet ≡ s → Refuses 11 sheet ws (strikeSays s n ws) (strikeLeaves s n ws)
-  unfolding strikeSays strikeLeaves
-  strike-refuses n (refusal m p) e = from-refusal 11 (omega arith) sheet ws m p e
-  strike-refuses n (kb k) e = go (isShort k ws) refl (ltb n (dominoes (kbView k))) refl
+  strike-refuses : (n : ℕ) → Refuses isStrikeRefusal sheet ws (strikeSays (readKb limit sheet) n ws) (strikeLeaves (readKb limit sheet) n ws)
+  unfolding strikeSays strikeLeaves isRecordFault isReadRefusal isSetRefusal isStrikeRefusal
+  strike-refuses n = from-any isStrikeRefusal struck-too sheet ws _ _ (λ k e h. go k e h (ltb n (dominoes (kbView k))) refl) (readKb limit sheet) refl
     where
-      go : (b : Bool) → isShort k ws ≡ b → (d : Bool) → ltb n (dominoes (kbView k)) ≡ d
-          → Refuses 11 sheet ws (cond b (10 ∷ 0 ∷ []) (cond d (0 ∷ 0 ∷ n ∷ verdictNumbers (verdictOf (kbView k) (look ws) n)) (11 ∷ 0 ∷ [])))
-          (cond b ws (strikeWords (dominoes (kbView k)) (defective (kbView k)) n ws))
-      go true q d r = from-short 11 (omega arith) sheet ws k e
-      go false q true r =
-          from-done 11 (omega arith) sheet ws k e _ (strikeWords (dominoes (kbView k)) (defective (kbView k)) n ws)
-          (ltb-false (length ws) (held (kbView k)) q)
+      go : (k : Kb) → readKb limit sheet ≡ kb k → held (kbView k) ≤ length ws → (d : Bool) → ltb n (dominoes (kbView k)) ≡ d
+          → Refuses isStrikeRefusal sheet ws (cond d (0 ∷ 0 ∷ n ∷ verdictNumbers (verdictOf (kbView k) (look ws) n)) (11 ∷ 0 ∷ []))
+          (strikeWords (dominoes (kbView k)) (defective (kbView k)) n ws)
+      go k e h true r =
+          from-done isStrikeRefusal struck-too sheet ws k e _ (strikeWords (dominoes (kbView k)) (defective (kbView k)) n ws) h
           (strike-long (dominoes (kbView k)) (defective (kbView k)) n ws)
-          (drop-strike (held (kbView k)) (dominoes (kbView k)) (defective (kbView k)) n ws (held-room (kbView k)))
-      go false q false r =
-          from-enough 11 (omega arith) sheet ws k e (11 ∷ 0 ∷ []) (strikeWords (dominoes (kbView k)) (defective (kbView k)) n ws)
-          (ltb-false (length ws) (held (kbView k)) q) refl (λ a b. omega arith) (omega arith)
-          (λ a. ap (λ (x : Bool). cond (x && (look ws n && defective (kbView k) (look ws) n)) (cleared ws n) ws) r)
+          (strike-past (held (kbView k)) (dominoes (kbView k)) (defective (kbView k)) n ws (held-room (kbView k)))
+      go k e h false r =
+          from-enough isStrikeRefusal struck-too sheet ws k e (11 ∷ 0 ∷ []) (strikeWords (dominoes (kbView k)) (defective (kbView k)) n ws)
+          h refl refl
+          (λ a. (refl, ap (λ (x : Bool). cond (x && (look ws n && defective (kbView k) (look ws) n)) (cleared ws n) ws) r))
           (strike-long (dominoes (kbView k)) (defective (kbView k)) n ws)
-          (drop-strike (held (kbView k)) (dominoes (kbView k)) (defective (kbView k)) n ws (held-room (kbView k)))
+          (strike-past (held (kbView k)) (dominoes (kbView k)) (defective (kbView k)) n ws (held-room (kbView k)))
 
-  settle-refuses : (s : Reading) → readKb limit sheet ≡ s → Refuses 10 sheet ws (settleSays s ws) (settleLeaves s ws)
+  settle-refuses : Refuses isSetRefusal sheet ws (settleSays (readKb limit sheet) ws) (settleLeaves (readKb limit sheet) ws)
   unfolding settleSays settleLeaves
-  settle-refuses (refusal n p) e = from-refusal 10 (omega arith) sheet ws n p e
-  settle-refuses (kb k) e = go (isShort k ws) refl
-    where
-      go : (b : Bool) → isShort k ws ≡ b
-          → Refuses 10 sheet ws
-          (cond b (10 ∷ 0 ∷ []) (0 ∷ 0 ∷ size (dominoes (kbView k)) (settled (dominoes (kbView k)) (defective (kbView k)) (look ws)) ∷ []))
-          (cond b ws (settleWords (held (kbView k)) (dominoes (kbView k)) (defective (kbView k)) ws))
-      go true q = from-short 10 (omega arith) sheet ws k e
-      go false q =
-          written-done 10 (omega arith) sheet ws k e _ (settled (dominoes (kbView k)) (defective (kbView k)) (look ws))
-          (ltb-false (length ws) (held (kbView k)) q)
+  settle-refuses =
+      from-any isSetRefusal (λ n e. e) sheet ws _ _
+      (λ k e h. written-done isSetRefusal (λ n e. e) sheet ws k e _ (settled (dominoes (kbView k)) (defective (kbView k)) (look ws)) h)
+      (readKb limit sheet) refl
 
-  judge-refuses : (s : Reading) → readKb limit sheet ≡ s → Refuses 10 sheet ws (judgeSays s ws) (judgeLeaves s ws)
+  judge-refuses : Refuses isSetRefusal sheet ws (judgeSays (readKb limit sheet) ws) (judgeLeaves (readKb limit sheet) ws)
   unfolding judgeSays judgeLeaves
-  judge-refuses (refusal n p) e = from-refusal 10 (omega arith) sheet ws n p e
-  judge-refuses (kb k) e = go (isShort k ws) refl
-    where
-      go : (b : Bool) → isShort k ws ≡ b
-          → Refuses 10 sheet ws
-          (cond b (10 ∷ 0 ∷ [])
-          (0 ∷ 0 ∷ size (dominoes (kbView k)) (initial (kbView k)) ∷ size (dominoes (kbView k)) (canon (kbView k))
-          ∷ cond (eqb (size (dominoes (kbView k)) (canon (kbView k))) 0) 0 1 ∷ []))
-          (cond b ws (written (held (kbView k)) (dominoes (kbView k)) (canon (kbView k)) ws))
-      go true q = from-short 10 (omega arith) sheet ws k e
-      go false q = written-done 10 (omega arith) sheet ws k e _ (canon (kbView k)) (ltb-false (length ws) (held (kbView k)) q)
+  judge-refuses =
+      from-any isSetRefusal (λ n e. e) sheet ws _ _ (λ k e h. written-done isSetRefusal (λ n e. e) sheet ws k e _ (canon (kbView k)) h) (readKb limit sheet) refl
 
 pub demand-1 : (sheet ws : List ℕ) (n : ℕ) → Demand1 sheet ws n
 demand-1 sheet ws n =
     record {
-      opening = open-refuses sheet ws (readKb limit sheet) refl;
-      striking = strike-refuses sheet ws n (readKb limit sheet) refl;
-      settling = settle-refuses sheet ws (readKb limit sheet) refl;
-      judging = judge-refuses sheet ws (readKb limit sheet) refl;
+      opening = open-refuses sheet ws;
+      striking = strike-refuses sheet ws n;
+      settling = settle-refuses sheet ws;
+      judging = judge-refuses sheet ws;
     }
 
 -- no words are too few for every sheet that is read, the empty one too
@@ -199,18 +192,10 @@ module _ (k : Kb) (ws : List ℕ) (h : held (kbView k) ≤ length ws) where
       let same : Same (dominoes v) (canon v) left = λ p l. flip (settled-same (dominoes v) (defective v) (defective-monotone v) (look us) (initial v)
       (written-look (held v) (dominoes v) (initial v) ws (held-room v)) p l) in
       judge-leaves k ws h
-      ∙ ap₂ (λ (x y : List ℕ). x ++ y)
-      (words-same (held v) (below (dominoes v) (canon v)) (below (dominoes v) left) (λ p l. inside (dominoes v) (canon v) left same p))
-      (flip (written-past (held v) (dominoes v) (initial v) ws))
+      ∙ written-same (held v) (dominoes v) (canon v) left ws same
+      ∙ flip (written-again (held v) (dominoes v) (initial v) left ws)
       ∙ flip (ap (settleLeaves (kb k)) (open-leaves k ws h)
       ∙ settle-leaves k us (omega (arith, written-long (held v) (dominoes v) (initial v) ws h)))
-    where
-      inside : (N : ℕ) (D E : Set) → Same N D E → (p : ℕ) → below N D p ≡ below N E p
-      inside N D E e p = go (ltb p N) refl
-        where
-          go : (b : Bool) → ltb p N ≡ b → (b && D p) ≡ (b && E p)
-          go true q = e p (ltb-true p N q)
-          go false q = refl
 
   done : (n : ℕ) → Demand1Done (kb k) (kbView k) ws n
   done n =

@@ -1,5 +1,4 @@
--- Demand 2: judging leaves the canonical set, the largest stable set; its verdict, its counts, its converses, and models. Assumes
--- nothing.
+-- Demand 2: judging leaves the canonical set, the largest stable set; its verdict, its counts, its converses, and models.
 use mathlib.Core.Path.{_≡_, refl, sym as flip, ap, _∙_}
 use mathlib.Core.Logic.{_⊎_, inl, inr}
 use mathlib.Core.Bool.{Bool, true, false, not, cond}
@@ -16,25 +15,26 @@ use Rattle.bitset.proofs.Sizes.{size-none}
 use Rattle.elimination.specs.Sets.{Same}
 use Rattle.elimination.specs.Elimination.{isStable, steps}
 use Rattle.elimination.proofs.Settling.{stable-same, canonical-largest, definition-5}
-use Rattle.tbox.specs.Reading.{Kb, kb, readKb}
-use Rattle.tbox.specs.Answers.{limit}
+use Rattle.elimination.proofs.Written.{written-look, written-spare, written-ones}
+use Rattle.syntax.specs.Reading.{Kb, kb, readKb}
+use Rattle.syntax.specs.Answers.{limit}
 use Rattle.semantics.specs.Dominoes.{Met, Domino, number, leftOf, rolesOf, rightOf, inverse, unnumbered}
-use Rattle.semantics.specs.Conditions.{View, dominoes, initial, lacks, defective, canon, canonDominoes}
+use Rattle.semantics.specs.Conditions.{View, dominoes, initial, lacks, defective, canon, canonDominoes, held}
 use Rattle.semantics.specs.Views.{kbView}
 use Rattle.semantics.proofs.Truths.{is-true, of-true}
 use Rattle.semantics.proofs.Numbers.{number-lt, left-number}
 use Rattle.semantics.proofs.Defects.{lacks-monotone, defective-monotone}
 use Rattle.semantics.proofs.Canonical.{dominoesOf, of-domino, of-number, of-unnumbered, canon-stable, canon-largest, canon-sym, canon-begins}
 use Rattle.semantics.proofs.Verdict.{sheet-verdict, model-dominoes}
-use Rattle.domino.specs.Answers.{held, judgeSays, judgeLeaves}
+use Rattle.domino.specs.Answers.{judgeSays, judgeLeaves}
 use Rattle.domino.specs.Demanded.{Demand2, NeverStranded, Demand2Models}
-use Rattle.domino.proofs.Saying.{held-room, written-look, written-spare, written-ones, open-leaves, judge-says, judge-leaves, stable-words, words-stable}
+use Rattle.domino.proofs.WordsEnough.{held-room, open-leaves, judge-says, judge-leaves, stable-words, words-stable}
 
 -- ---- the canonical set on numbers and as dominoes
 
 module _ (v : View) where
   -- a domino is in it exactly if its number is
-  canon-number : (A R B : ℕ) → Domino (v .parts) (v .roles) A R B → canon v (number (v .parts) (v .roles) A R B) ≡ canonDominoes v A R B
+  pub canon-number : (A R B : ℕ) → Domino (v .parts) (v .roles) A R B → canon v (number (v .parts) (v .roles) A R B) ≡ canonDominoes v A R B
   unfolding canonDominoes dominoesOf
   canon-number A R B d = flip (of-number v (canon v) A R B d)
 
@@ -86,20 +86,20 @@ module _ (v : View) where
 -- ---- what judge answers and leaves
 
 module _ (k : Kb) (ws : List ℕ) (h : held (kbView k) ≤ length ws) where
-  judged : Same (dominoes (kbView k)) (look (judgeLeaves (kb k) ws)) (canon (kbView k))
+  pub judged : Same (dominoes (kbView k)) (look (judgeLeaves (kb k) ws)) (canon (kbView k))
   judged p l =
       ap (λ (us : List ℕ). look us p) (judge-leaves k ws h)
       ∙ written-look (held (kbView k)) (dominoes (kbView k)) (canon (kbView k)) ws (held-room (kbView k)) p l
 
   -- the three values of an answer that is no refusal
-  values : (opening survivors met : ℕ) → judgeSays (kb k) ws ≡ 0 ∷ 0 ∷ opening ∷ survivors ∷ met ∷ []
+  pub values : (opening survivors met : ℕ) → judgeSays (kb k) ws ≡ 0 ∷ 0 ∷ opening ∷ survivors ∷ met ∷ []
       → (opening ≡ size (dominoes (kbView k)) (initial (kbView k))) × (survivors ≡ size (dominoes (kbView k)) (canon (kbView k)))
       × (met ≡ cond (eqb (size (dominoes (kbView k)) (canon (kbView k))) 0) 0 1)
   values opening survivors met e =
       let q = flip e ∙ judge-says k ws h in
       (ap (λ (l : List ℕ). getD l 2 0) q, ap (λ (l : List ℕ). getD l 3 0) q, ap (λ (l : List ℕ). getD l 4 0) q)
 
-  verdict-is : (met : ℕ) (b : Bool) → eqb (size (dominoes (kbView k)) (canon (kbView k))) 0 ≡ b → met ≡ cond b 0 1
+  pub verdict-is : (met : ℕ) (b : Bool) → eqb (size (dominoes (kbView k)) (canon (kbView k))) 0 ≡ b → met ≡ cond b 0 1
       → ((met ≡ 1) × Met (canonDominoes (kbView k))) ⊎ ((met ≡ 0) × (Met (canonDominoes (kbView k)) → ⊥))
   verdict-is met true q e = inr (e, none-left (kbView k) (eqb-true (size (dominoes (kbView k)) (canon (kbView k))) 0 q))
   verdict-is met false q e = inl (e, some-left (kbView k) (eqb-false (size (dominoes (kbView k)) (canon (kbView k))) 0 q))
@@ -129,7 +129,7 @@ module _ (k : Kb) (ws : List ℕ) (h : held (kbView k) ≤ length ws) where
       }
 
   -- a domino of the canonical set is in the words left
-  survives : (A R B : ℕ) → canonDominoes (kbView k) A R B ≡ true
+  pub survives : (A R B : ℕ) → canonDominoes (kbView k) A R B ≡ true
       → look (judgeLeaves (kb k) ws) (number (kbView k .parts) (kbView k .roles) A R B) ≡ true
   survives A R B e =
       let v : View = kbView k in

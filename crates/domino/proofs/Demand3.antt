@@ -1,4 +1,4 @@
--- Demand 3: what a single call does, and what every list of strikes and settlings from words just opened does. Assumes nothing.
+-- Demand 3: what a single call does, and what every list of strikes and settlings from words just opened does.
 use mathlib.Core.Path.{_≡_, refl, sym as flip, ap, subst, _∙_}
 use mathlib.Core.Bool.{Bool, true, false, not, _&&_, cond, and-true, and-false}
 use mathlib.Core.List.{List, [], _∷_}
@@ -15,14 +15,15 @@ use Rattle.elimination.specs.Elimination.{isStable, settled, Monotone, Largest}
 use Rattle.elimination.specs.Calls.{Call, strike, settle, runWith, strikeWords, actWords, after, Demand3Words}
 use Rattle.elimination.proofs.Settling.{same-sub, same-sub′, stable-same, settled-largest}
 use Rattle.elimination.proofs.CallsOnWords.{demand-3-words}
-use Rattle.tbox.specs.Reading.{Kb, kb, readKb}
-use Rattle.tbox.specs.Answers.{limit}
-use Rattle.semantics.specs.Conditions.{View, dominoes, initial, lacks, defective, defectAt, canon}
+use Rattle.elimination.proofs.Written.{written-long, written-look, written-spare, written-front, written-ones, strike-long}
+use Rattle.syntax.specs.Reading.{Kb, kb, readKb}
+use Rattle.syntax.specs.Answers.{limit}
+use Rattle.semantics.specs.Conditions.{View, dominoes, initial, lacks, defective, defectAt, canon, held}
 use Rattle.semantics.specs.Views.{kbView}
 use Rattle.semantics.proofs.Defects.{lacks-monotone, defective-is, defective-monotone}
-use Rattle.domino.specs.Answers.{held, openLeaves, settleLeaves}
+use Rattle.domino.specs.Answers.{openLeaves, settleLeaves}
 use Rattle.domino.specs.Demanded.{StableWords, called, callsLeave, Demand3, Demand3Calls}
-use Rattle.domino.proofs.Saying.{held-room, written-long, written-look, written-spare, written-front, written-ones, open-says, open-leaves, strike-leaves, settle-says, settle-leaves, judge-leaves, strike-long, stable-words, words-stable}
+use Rattle.domino.proofs.WordsEnough.{held-room, open-says, open-leaves, strike-leaves, settle-says, settle-leaves, judge-leaves, stable-words, words-stable}
 
 -- ---- single calls
 

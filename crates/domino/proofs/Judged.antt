@@ -1,4 +1,4 @@
--- What judge says, for callers: laws about the name. Assumes nothing.
+-- What judge says, for callers: laws about the name.
 use Prim.Native.Nat.{ℕ, _*_, _≤_}
 use mathlib.Core.Path.{_≡_, refl, ap}
 use mathlib.Core.Bool.{Bool, true, false, cond}
@@ -10,17 +10,17 @@ use lib.ListN.{length}
 use borrow.Author.Tests.{le-ltb, ltb-false}
 use Rattle.bitset.specs.Bits.{size}
 use Rattle.bitset.proofs.Sizes.{size-le}
-use Rattle.tbox.specs.Reading.{Kb, Reading, refusal, kb}
-use Rattle.semantics.specs.Conditions.{dominoes, initial, canon}
+use Rattle.syntax.specs.Reading.{Kb, Reading, refusal, kb}
+use Rattle.semantics.specs.Conditions.{dominoes, initial, canon, held}
 use Rattle.semantics.specs.Views.{kbView}
-use Rattle.domino.specs.Answers.{held, isShort, judgeSays}
-use Rattle.domino.proofs.Saying.{held-room}
+use Rattle.domino.specs.Answers.{isShort, onSet, saysOnSet, judgeSays}
+use Rattle.domino.proofs.WordsEnough.{held-room}
 
 -- ---- the words lent
 
 -- it depends on them by their number alone
 pub judge-by-length : (s : Reading) (us ws : List ℕ) → length us ≡ length ws → judgeSays s us ≡ judgeSays s ws
-unfolding judgeSays
+unfolding judgeSays saysOnSet onSet
 judge-by-length (refusal n p) us ws e = refl
 judge-by-length (kb k) us ws e = rw e
 
@@ -35,13 +35,13 @@ still-enough k us ws h q =
 
 -- five numbers that it says with some words it says with more
 pub more-words : (s : Reading) (us ws : List ℕ) → length us ≤ length ws → length (judgeSays s us) ≡ 5 → judgeSays s ws ≡ judgeSays s us
-unfolding judgeSays
+unfolding judgeSays saysOnSet onSet
 more-words (refusal n p) us ws h e = refl
 more-words (kb k) us ws h e = not-two (isShort k us) (isShort k ws) (10 ∷ 0 ∷ []) _ (still-enough k us ws h) refl e
 
 -- too few words
 pub judge-short : (k : Kb) (ws : List ℕ) → isShort k ws ≡ true → judgeSays (kb k) ws ≡ 10 ∷ 0 ∷ []
-unfolding judgeSays
+unfolding judgeSays saysOnSet onSet
 judge-short k ws e = rw e
 
 -- ---- its two forms
@@ -58,7 +58,7 @@ forms true o n w h = inl (10, 0, refl)
 forms false o n w h = inr (o, n, refl, h refl)
 
 pub judge-forms : (s : Reading) (ws : List ℕ) → Forms (judgeSays s ws) (length ws)
-unfolding judgeSays
+unfolding judgeSays saysOnSet onSet
 judge-forms (refusal n p) ws = inl (n, p, refl)
 judge-forms (kb k) ws =
     let v = kbView k in

@@ -1,5 +1,5 @@
 -- What a strike tells; settle, judge and lists of calls leave what the test without a number leaves; how the answers tell a set at
--- rest. Assumes nothing.
+-- rest.
 use mathlib.Core.Path.{_≡_, refl, sym as flip, ap, ap₂, _∙_, fun-ext}
 use mathlib.Core.Bool.{Bool, true, false, not, cond, false≢true}
 use mathlib.Core.List.{List, [], _∷_}
@@ -13,18 +13,18 @@ use Rattle.bitset.specs.Bits.{Set, look, areWords}
 use Rattle.bitset.proofs.Facts.{either, T-of}
 use Rattle.elimination.specs.Calls.{runWith, strikeWords, settleWords, actWords}
 use Rattle.elimination.proofs.CallsOnWords.{after-initial}
-use Rattle.tbox.specs.Bounds.{All}
-use Rattle.tbox.specs.Reading.{Kb, kb, readKb}
-use Rattle.tbox.specs.Answers.{limit}
-use Rattle.semantics.specs.Conditions.{View, order, FirstFails, dominoes, initial, lacks, defective, condition, conditionAt, defectAt}
+use Rattle.syntax.specs.Bounds.{All}
+use Rattle.syntax.specs.Reading.{Kb, kb, readKb}
+use Rattle.syntax.specs.Answers.{limit}
+use Rattle.semantics.specs.Conditions.{View, order, FirstFails, dominoes, initial, lacks, defective, condition, conditionAt, defectAt, held}
 use Rattle.semantics.specs.Views.{kbView}
 use Rattle.semantics.proofs.Truths.{is-true, of-true}
 use Rattle.semantics.proofs.Defects.{defect-le, defect-first, first-defect, defect-passes, passes-defect, defect-later, defective-is, lacks-monotone}
 use Rattle.domino.specs.declared.Verdict.the-variants.{Absent, Struck, Kept}
-use Rattle.domino.specs.Answers.{held, verdictNumbers, verdictOf, openLeaves, strikeSays}
+use Rattle.domino.specs.Answers.{verdictNumbers, verdictOf, openLeaves, strikeSays}
 use Rattle.domino.specs.Demanded.{StableWords, callsLeave}
 use Rattle.domino.specs.Reasons.{absent, struck, kept, Tells, failsSome, AsBefore, Resting}
-use Rattle.domino.proofs.Saying.{held-room, open-leaves, strike-says, strike-beyond, strike-leaves, settle-leaves}
+use Rattle.domino.proofs.WordsEnough.{held-room, open-leaves, strike-says, strike-beyond, strike-leaves, settle-leaves}
 use Rattle.domino.proofs.Demand1.{opened-settled}
 use Rattle.domino.proofs.Demand3.{calls-leave, calls-leave-long}
 

@@ -1,5 +1,4 @@
 -- The worked sheets are as the table has them: the answers of the definitions are those that compute, and these are the table's.
--- Assumes nothing.
 use mathlib.Core.Path.{_≡_, refl, sym as flip, ap, ap₂, _∙_}
 use mathlib.Core.Bool.{Bool, true, false, cond}
 use mathlib.Core.List.{List, [], _∷_, _++_, map}
@@ -17,22 +16,23 @@ use Rattle.elimination.specs.Calls.{written}
 use Rattle.elimination.specs.Tables.{settledWords}
 use Rattle.elimination.proofs.Settling.{settled-same}
 use Rattle.elimination.proofs.Tables.{settledWords-same, settledWords-is}
-use Rattle.tbox.specs.Shapes.{shapeOf, isLeaf, isRestriction}
-use Rattle.tbox.specs.Scan.{scanSheet, scan, recordFault, recordAfter, after, namesAfter, rolesAfter, bodyFault, numberFault, referenceFault, emptyFault, vacuousOf, name}
-use Rattle.tbox.specs.Concepts.{nodesOf, nodesFrom, nodeOf, axiomsOf, axiomOf}
-use Rattle.tbox.specs.Normal.{plain, negated, axiomNf}
-use Rattle.tbox.specs.Flatten.{flattenBy, runBy, walkPendingBy, walkBy, meetOne, placed, shared, findFrom, alike, likeExists, likeForall, sameRole, sameFiller, sameAtom, yesNo, atom, restrictions, weight, weights, nameParts, pendings}
-use Rattle.tbox.specs.Truth.{eval, kbOn, roleOn}
-use Rattle.tbox.specs.Promise.{kindOf, roleHolds}
-use Rattle.tbox.specs.Reading.{Kb, Reading, refusal, kb, readKb, reading, admit}
-use Rattle.tbox.specs.Answers.{limit, readSays}
+use Rattle.elimination.proofs.Written.{written-long, written-look}
+use Rattle.records.specs.Shapes.{shapeOf, isLeaf, isRestriction}
+use Rattle.records.specs.Scan.{scanSheet, scan, recordFault, recordAfter, after, namesAfter, rolesAfter, bodyFault, numberFault, referenceFault, emptyFault, vacuousOf, name}
+use Rattle.syntax.specs.Concepts.{nodesOf, nodesFrom, nodeOf, axiomsOf, axiomOf}
+use Rattle.syntax.specs.Normal.{plain, negated, axiomNf}
+use Rattle.syntax.specs.Flatten.{flattenBy, runBy, walkPendingBy, walkBy, meetOne, placed, shared, findFrom, alike, likeExists, likeForall, sameRole, sameFiller, sameAtom, yesNo, atom, restrictions, weight, weights, nameParts, pendings}
+use Rattle.syntax.specs.Truth.{eval, kbOn, roleOn}
+use Rattle.syntax.specs.Parts.{kindOf, roleHolds}
+use Rattle.syntax.specs.Reading.{Kb, Reading, refusal, kb, readKb, reading, admit}
+use Rattle.syntax.specs.Answers.{limit, readSays}
 use Rattle.semantics.specs.Dominoes.{number, leftOf, rolesOf, rightOf, inverse, numbered}
-use Rattle.semantics.specs.Conditions.{View, firstFailing, kb as good, ex, uni, witness, delex, deluni, sym, condition, defect, initially, sustained, dominoes, initial, lacks, defective, defectAt, canon}
+use Rattle.semantics.specs.Conditions.{View, firstFailing, kb as good, ex, uni, witness, delex, deluni, sym, condition, defect, initially, sustained, dominoes, initial, lacks, defective, defectAt, canon, held}
 use Rattle.semantics.specs.Views.{fillerIn, hasFiller, kbView}
 use Rattle.semantics.proofs.Defects.{defective-monotone}
-use Rattle.domino.specs.Answers.{held, isShort, verdictNumbers, verdictOf, openSays, openLeaves, strikeSays, strikeLeaves, settleSays, judgeSays, judgeLeaves}
+use Rattle.domino.specs.Answers.{isShort, onSet, saysOnSet, leavesOnSet, verdictNumbers, verdictOf, openSays, openLeaves, strikeSays, strikeLeaves, settleSays, judgeSays, judgeLeaves}
 use Rattle.domino.specs.Examples.{Row, row, answered, table, tried, strikes, needs}
-use Rattle.domino.proofs.Saying.{held-room, written-long, written-look, open-says, open-leaves, settle-says, judge-says, judge-leaves}
+use Rattle.domino.proofs.WordsEnough.{held-room, open-says, open-leaves, settle-says, judge-says, judge-leaves}
 
 -- ---- what computes
 
@@ -60,7 +60,7 @@ abbrev computed : Row → Row
 computed r = readRow (readKb limit (r .sheet)) (r .sheet) (readSays (readKb limit (r .sheet))) (r .lent)
 
 both-computed : (map computed table ≡ table) × (map tried strikes ≡ strikes)
-unfolding readSays strikeSays strikeLeaves openLeaves verdictOf verdictNumbers cleared readKb reading admit flattenBy runBy walkPendingBy walkBy meetOne placed shared findFrom alike likeExists likeForall sameRole sameFiller sameAtom yesNo ℕ-discrete atom restrictions weight weights nameParts pendings plain negated axiomNf nodesOf nodesFrom nodeOf axiomsOf axiomOf scanSheet scan recordFault recordAfter after namesAfter rolesAfter bodyFault numberFault referenceFault emptyFault vacuousOf name shapeOf isLeaf isRestriction eval kbOn roleOn kindOf roleHolds number leftOf rolesOf rightOf inverse numbered good ex uni witness delex deluni sym firstFailing condition defect initially sustained initial lacks defectAt fillerIn hasFiller word wordAt wordsFrom size every some
+unfolding readSays strikeSays strikeLeaves openLeaves saysOnSet leavesOnSet onSet verdictOf verdictNumbers cleared readKb reading admit flattenBy runBy walkPendingBy walkBy meetOne placed shared findFrom alike likeExists likeForall sameRole sameFiller sameAtom yesNo ℕ-discrete atom restrictions weight weights nameParts pendings plain negated axiomNf nodesOf nodesFrom nodeOf axiomsOf axiomOf scanSheet scan recordFault recordAfter after namesAfter rolesAfter bodyFault numberFault referenceFault emptyFault vacuousOf name shapeOf isLeaf isRestriction eval kbOn roleOn kindOf roleHolds number leftOf rolesOf rightOf inverse numbered good ex uni witness delex deluni sym firstFailing condition defect initially sustained initial lacks defectAt fillerIn hasFiller word wordAt wordsFrom size every some
 both-computed = (refl, refl)
 
 -- ---- the definitions' answers are those
@@ -69,7 +69,7 @@ module _ (k : Kb) (l : List ℕ) where
   short-row : (t r : List ℕ) → isShort k l ≡ true
       → row t r l (openSays (kb k) l) (openLeaves (kb k) l) (settleSays (kb k) (openLeaves (kb k) l)) (judgeSays (kb k) l) (judgeLeaves (kb k) l)
       ≡ refusedRow 10 0 t r l
-  unfolding openSays openLeaves settleSays judgeSays judgeLeaves
+  unfolding openSays openLeaves settleSays judgeSays judgeLeaves saysOnSet leavesOnSet onSet
   short-row t r q = rw (q, q)
 
   module _ (h : held (kbView k) ≤ length l) where
@@ -108,7 +108,7 @@ module _ (k : Kb) (l : List ℕ) where
 
 same-row : (s : Reading) (t r l : List ℕ)
     → row t r l (openSays s l) (openLeaves s l) (settleSays s (openLeaves s l)) (judgeSays s l) (judgeLeaves s l) ≡ readRow s t r l
-same-row (refusal n p) t r l = unfold openSays openLeaves settleSays judgeSays judgeLeaves in refl
+same-row (refusal n p) t r l = unfold openSays openLeaves settleSays judgeSays judgeLeaves saysOnSet leavesOnSet onSet in refl
 same-row (kb k) t r l = go (isShort k l) refl
   where
     go : (b : Bool) → isShort k l ≡ b

@@ -1,17 +1,18 @@
--- What open, strike, settle and judge answer and leave (01, "The calls, and what each refuses"). Assumes nothing: these are
--- definitions.
-use Prim.Native.Nat.{ℕ}
+-- What open, strike, settle and judge answer and leave (01, "The calls, and what each refuses").
+use Prim.Native.Nat.{ℕ, _≤_}
 use mathlib.Core.Path.{_≡_}
-use mathlib.Core.Bool.{Bool, cond}
+use mathlib.Core.Bool.{Bool, cond, _||_}
 use mathlib.Core.List.{List, [], _∷_}
 use lib.Dec.{eqb, ltb}
 use lib.ListN.{length}
 use Rattle.bitset.specs.Bits.{Set, look, size}
 use Rattle.elimination.specs.Elimination.{settled}
 use Rattle.elimination.specs.Calls.{written, strikeWords, settleWords}
-use Rattle.tbox.specs.Reading.{Kb, Reading, refusal, kb}
-use Rattle.semantics.specs.Dominoes.{wordsFor}
-use Rattle.semantics.specs.Conditions.{View, dominoes, initial, defective, defectAt, canon}
+use Rattle.tbox.specs.declared.base.Loaded.{Loaded}
+use Rattle.syntax.specs.Reading.{Kb, Reading, refusal, kb, readKb, isReadRefusal}
+use Rattle.syntax.specs.Answers.{limit}
+use Rattle.tbox.specs.Promise.{Flattened}
+use Rattle.semantics.specs.Conditions.{View, dominoes, initial, defective, defectAt, canon, held}
 use Rattle.semantics.specs.Views.{kbView}
 use Rattle.domino.specs.declared.OpenAnswer.{OpenAnswer}
 use Rattle.domino.specs.declared.OpenAnswer.the-variants.{Refused, Opened}
@@ -22,7 +23,6 @@ use Rattle.domino.specs.declared.StrikeAnswer.{StrikeAnswer}
 use Rattle.domino.specs.declared.StrikeAnswer.the-variants.{Refused as NotStruck, Tried}
 use Rattle.domino.specs.declared.SettleAnswer.{SettleAnswer}
 use Rattle.domino.specs.declared.SettleAnswer.the-variants.{Refused as NotSettled, Settled}
-use Rattle.domino.specs.declared.judging.Judgement.{Judgement}
 use Rattle.domino.specs.declared.JudgeAnswer.{JudgeAnswer}
 use Rattle.domino.specs.declared.JudgeAnswer.the-variants.{Refused as NotJudged, Judged}
 
@@ -49,70 +49,65 @@ unfoldable pub judgeNumbers : JudgeAnswer → List ℕ
 judgeNumbers (NotJudged n p) = n ∷ p ∷ []
 judgeNumbers (Judged opening survivors met) = 0 ∷ 0 ∷ opening ∷ survivors ∷ cond met 1 0 ∷ []
 
--- "Words needed: 2^(2c+2L) / 64, but at least 1"
-abbrev pub held : View → ℕ
-held v = wordsFor (dominoes v)
-
 -- "10, set too short"
 abbrev pub isShort : Kb → List ℕ → Bool
 isShort k ws = ltb (length ws) (held (kbView k))
 
+-- A call on a set of so many words, of a sheet read as s: "refuses as read does, then 10, set too short"; else the call's own part.
+-- What a refusal comes to is `refuse`, of its number and place.
+unfoldable pub onSet : {A : Type 0} → (ℕ → ℕ → A) → (Kb → A) → Reading → ℕ → A
+onSet refuse own (refusal n p) words = refuse n p
+onSet refuse own (kb k) words = cond (ltb words (held (kbView k))) (refuse 10 0) (own k)
+
+-- the numbers it refuses with
+unfoldable pub isSetRefusal : ℕ → Bool
+isSetRefusal n = isReadRefusal n || eqb n 10
+
+-- what such a call says: a refusal's number and place, or what the call says of the knowledge base and the words
+unfoldable pub saysOnSet : (Kb → List ℕ → List ℕ) → Reading → List ℕ → List ℕ
+saysOnSet own s ws = onSet (λ n p. n ∷ p ∷ []) (λ k. own k ws) s (length ws)
+
+-- what it leaves: "A refusal writes nothing to any buffer"
+unfoldable pub leavesOnSet : (Kb → List ℕ → List ℕ) → Reading → List ℕ → List ℕ
+leavesOnSet own s ws = onSet (λ n p. ws) (λ k. own k ws) s (length ws)
+
 -- open: "It writes the opening set and answers its size."
 unfoldable pub openSays : Reading → List ℕ → List ℕ
-openSays (refusal n p) ws = n ∷ p ∷ []
-openSays (kb k) ws =
-    cond (isShort k ws) (10 ∷ 0 ∷ [])
-    (0 ∷ 0 ∷ size (dominoes (kbView k)) (initial (kbView k)) ∷ [])
+openSays = saysOnSet (λ k ws. 0 ∷ 0 ∷ size (dominoes (kbView k)) (initial (kbView k)) ∷ [])
 
 unfoldable pub openLeaves : Reading → List ℕ → List ℕ
-openLeaves (refusal n p) ws = ws
-openLeaves (kb k) ws =
-    cond (isShort k ws) ws
-    (written (held (kbView k)) (dominoes (kbView k)) (initial (kbView k)) ws)
+openLeaves = leavesOnSet (λ k ws. written (held (kbView k)) (dominoes (kbView k)) (initial (kbView k)) ws)
 
 -- strike: "Absent, not in the set; Struck, in it and loose, and now out; Kept, in it and not loose"; 02, N2: the number "of the
 -- first condition that fails in 01's order, and Struck carries it"
 unfoldable pub verdictOf : View → Set → ℕ → Verdict
 verdictOf v D n = cond (D n) (cond (eqb (defectAt v D n) 0) Kept (Struck (defectAt v D n))) Absent
 
--- "then 11, number not below 2^(2c+2L)"
+-- strike "refuses as read does, then 10, then 11, number not below 2^(2c+2L)"
+unfoldable pub isStrikeRefusal : ℕ → Bool
+isStrikeRefusal n = isSetRefusal n || eqb n 11
+
 unfoldable pub strikeSays : Reading → ℕ → List ℕ → List ℕ
-strikeSays (refusal m p) n ws = m ∷ p ∷ []
-strikeSays (kb k) n ws =
-    cond (isShort k ws) (10 ∷ 0 ∷ [])
-    (cond (ltb n (dominoes (kbView k))) (0 ∷ 0 ∷ n ∷ verdictNumbers (verdictOf (kbView k) (look ws) n)) (11 ∷ 0 ∷ []))
+strikeSays s n = saysOnSet (λ k ws. cond (ltb n (dominoes (kbView k)))
+    (0 ∷ 0 ∷ n ∷ verdictNumbers (verdictOf (kbView k) (look ws) n)) (11 ∷ 0 ∷ [])) s
 
 unfoldable pub strikeLeaves : Reading → ℕ → List ℕ → List ℕ
-strikeLeaves (refusal m p) n ws = ws
-strikeLeaves (kb k) n ws =
-    cond (isShort k ws) ws (strikeWords (dominoes (kbView k)) (defective (kbView k)) n ws)
+strikeLeaves s n = leavesOnSet (λ k ws. strikeWords (dominoes (kbView k)) (defective (kbView k)) n ws) s
 
 -- settle: "It leaves the largest subset of the set that has nothing loose."
 unfoldable pub settleSays : Reading → List ℕ → List ℕ
-settleSays (refusal n p) ws = n ∷ p ∷ []
-settleSays (kb k) ws =
-    cond (isShort k ws) (10 ∷ 0 ∷ [])
-    (0 ∷ 0 ∷ size (dominoes (kbView k)) (settled (dominoes (kbView k)) (defective (kbView k)) (look ws)) ∷ [])
+settleSays = saysOnSet (λ k ws. 0 ∷ 0 ∷ size (dominoes (kbView k)) (settled (dominoes (kbView k)) (defective (kbView k)) (look ws)) ∷ [])
 
 unfoldable pub settleLeaves : Reading → List ℕ → List ℕ
-settleLeaves (refusal n p) ws = ws
-settleLeaves (kb k) ws =
-    cond (isShort k ws) ws (settleWords (held (kbView k)) (dominoes (kbView k)) (defective (kbView k)) ws)
+settleLeaves = leavesOnSet (λ k ws. settleWords (held (kbView k)) (dominoes (kbView k)) (defective (kbView k)) ws)
 
 -- judge: "It opens and settles, and answers the opening size, the survivor count, and met or unmet." 02, N5: "13 is withdrawn"
 unfoldable pub judgeSays : Reading → List ℕ → List ℕ
-judgeSays (refusal n p) ws = n ∷ p ∷ []
-judgeSays (kb k) ws =
-    cond (isShort k ws) (10 ∷ 0 ∷ [])
-    (0 ∷ 0 ∷ size (dominoes (kbView k)) (initial (kbView k)) ∷ size (dominoes (kbView k)) (canon (kbView k))
+judgeSays = saysOnSet (λ k ws. 0 ∷ 0 ∷ size (dominoes (kbView k)) (initial (kbView k)) ∷ size (dominoes (kbView k)) (canon (kbView k))
     ∷ cond (eqb (size (dominoes (kbView k)) (canon (kbView k))) 0) 0 1 ∷ [])
 
--- "A refusal writes nothing to any buffer"
 unfoldable pub judgeLeaves : Reading → List ℕ → List ℕ
-judgeLeaves (refusal n p) ws = ws
-judgeLeaves (kb k) ws =
-    cond (isShort k ws) ws
-    (written (held (kbView k)) (dominoes (kbView k)) (canon (kbView k)) ws)
+judgeLeaves = leavesOnSet (λ k ws. written (held (kbView k)) (dominoes (kbView k)) (canon (kbView k)) ws)
 
 -- the contracts: for a sheet read as s
 pub record Opens (s : Reading) (before after : List ℕ) (r : OpenAnswer) : Type 0 where
@@ -133,20 +128,13 @@ pub record Judges (s : Reading) (before after : List ℕ) (r : JudgeAnswer) : Ty
 
 -- ---- the same for a view, and room enough
 
-pub record OpensSet (v : View) (before after : List ℕ) (r : ℕ) : Type 0 where
-  pub answer : r ≡ size (dominoes v) (initial v)
-  pub set : after ≡ written (held v) (dominoes v) (initial v) before
+-- a sheet loaded for a call on a set of so many words: what every such call refuses with, or fault 0 and the knowledge base, for
+-- which the words are enough. Free: the base of a refusal.
+pub record LoadsFor (sheet : List ℕ) (words : ℕ) (r : Loaded) : Type 0 where
+  pub refused : (r .fault ≡ 0 → ⊥) → onSet refusal kb (readKb limit sheet) words ≡ refusal (r .fault) (r .place)
+  pub read : r .fault ≡ 0 → (k : Kb) × (readKb limit sheet ≡ kb k) × (held (kbView k) ≤ words) × Flattened k (r .base)
 
 pub record StrikesSet (v : View) (n : ℕ) (before after : List ℕ) (r : Outcome) : Type 0 where
   pub number : r .number ≡ n
   pub verdict : r .verdict ≡ verdictOf v (look before) n
   pub set : after ≡ strikeWords (dominoes v) (defective v) n before
-
-pub record SettlesSet (v : View) (before after : List ℕ) (r : ℕ) : Type 0 where
-  pub answer : r ≡ size (dominoes v) (settled (dominoes v) (defective v) (look before))
-  pub set : after ≡ settleWords (held v) (dominoes v) (defective v) before
-
-pub record JudgesSet (v : View) (before after : List ℕ) (r : Judgement) : Type 0 where
-  pub opening : r .opening ≡ size (dominoes v) (initial v)
-  pub survivors : r .survivors ≡ size (dominoes v) (canon v)
-  pub set : after ≡ written (held v) (dominoes v) (canon v) before

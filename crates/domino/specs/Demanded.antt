@@ -1,9 +1,9 @@
 -- What the request's demands 1 to 3 say of the answers and of the words left. Proved in proofs/Demand1.antt, Demand2.antt and
--- Demand3.antt. Assumes nothing: these are definitions.
+-- Demand3.antt.
 use Prim.Native.Nat.{ℕ, suc, _*_, _≤_, _<_}
 use mathlib.Core.Path.{_≡_}
 use mathlib.Core.Logic.{_⊎_}
-use mathlib.Core.Bool.{true, false, _&&_}
+use mathlib.Core.Bool.{Bool, true, false, _&&_}
 use mathlib.Core.List.{List, [], _∷_}
 use lib.Dec.{eqb}
 use lib.ListN.{length, getD, take, drop}
@@ -11,14 +11,14 @@ use Rattle.bitset.specs.Bits.{look, onesOf}
 use Rattle.elimination.specs.Sets.{Sub, Same}
 use Rattle.elimination.specs.Elimination.{steps, Largest}
 use Rattle.elimination.specs.Calls.{Call, strike, settle, runWith, Passes}
-use Rattle.tbox.specs.Reading.{Kb, Reading, refusal, kb, readKb}
-use Rattle.tbox.specs.Answers.{limit}
+use Rattle.syntax.specs.Reading.{Kb, Reading, refusal, kb, readKb, isRecordFault, isReadRefusal}
+use Rattle.syntax.specs.Answers.{limit}
 use Rattle.semantics.specs.Interpretations.{Interpretation, models}
 use Rattle.semantics.specs.Dominoes.{Met, Domino, number, leftOf, rightOf, inverse}
-use Rattle.semantics.specs.Conditions.{View, LargestStable, dominoes, initial, defective, defectAt, canonDominoes}
+use Rattle.semantics.specs.Conditions.{View, LargestStable, dominoes, initial, defective, defectAt, canonDominoes, held}
 use Rattle.semantics.specs.Views.{kbView}
 use Rattle.semantics.specs.Projection.{projection}
-use Rattle.domino.specs.Answers.{held, openSays, openLeaves, strikeSays, strikeLeaves, settleSays, settleLeaves, judgeSays, judgeLeaves}
+use Rattle.domino.specs.Answers.{isSetRefusal, isStrikeRefusal, openSays, openLeaves, strikeSays, strikeLeaves, settleSays, settleLeaves, judgeSays, judgeLeaves}
 
 -- ---- demand 1: "the call comes back with the refusal number and place that document 01 fixes, and every set and list is
 -- untouched, unless a later request says outright what that refusal leaves. Where the input is sound the call does its work."
@@ -30,17 +30,17 @@ refusalOf says = getD says 0 0
 abbrev pub placeOf : List ℕ → ℕ
 placeOf says = getD says 1 0
 
--- what a call keeps to whose refusals go up to the number `last`, and that says `says` and leaves `after` of the words `before`
-pub record Refuses (last : ℕ) (sheet before says after : List ℕ) : Type 0 where
-  -- "refuses as read does": with its number, 1 to 9, and its place
-  pub read : (n p : ℕ) → readKb limit sheet ≡ refusal n p → (says ≡ n ∷ p ∷ []) × (1 ≤ n) × (n ≤ 9)
+-- what a call keeps to that refuses with the numbers `refusals`, and that says `says` and leaves `after` of the words `before`
+pub record Refuses (refusals : ℕ → Bool) (sheet before says after : List ℕ) : Type 0 where
+  -- "refuses as read does": with its number and its place
+  pub read : (n p : ℕ) → readKb limit sheet ≡ refusal n p → (says ≡ n ∷ p ∷ []) × (isReadRefusal n ≡ true)
   -- "then 10, set too short"
   pub short : (k : Kb) → readKb limit sheet ≡ kb k → length before < held (kbView k) → says ≡ 10 ∷ 0 ∷ []
   -- "The place is the byte where the offending record starts for 1 to 8, and 0 otherwise."
-  pub inside : 1 ≤ refusalOf says → refusalOf says ≤ 8 → placeOf says < length sheet
-  pub nowhere : 9 ≤ refusalOf says → placeOf says ≡ 0
+  pub inside : isRecordFault (refusalOf says) ≡ true → placeOf says < length sheet
+  pub nowhere : isRecordFault (refusalOf says) ≡ false → placeOf says ≡ 0
   -- no other number is given; 02, N5: "13 is withdrawn, its number left unused"
-  pub among : refusalOf says ≤ last
+  pub among : (refusalOf says ≡ 0 → ⊥) → refusals (refusalOf says) ≡ true
   -- "A refusal writes nothing to any buffer"; 01's exception was 13
   pub untouched : (refusalOf says ≡ 0 → ⊥) → after ≡ before
   -- "Further words are never touched."
@@ -49,10 +49,10 @@ pub record Refuses (last : ℕ) (sheet before says after : List ℕ) : Type 0 wh
 
 -- for words ws, and a number n to strike
 pub record Demand1 (sheet ws : List ℕ) (n : ℕ) : Type 0 where
-  pub opening : Refuses 10 sheet ws (openSays (readKb limit sheet) ws) (openLeaves (readKb limit sheet) ws)
-  pub striking : Refuses 11 sheet ws (strikeSays (readKb limit sheet) n ws) (strikeLeaves (readKb limit sheet) n ws)
-  pub settling : Refuses 10 sheet ws (settleSays (readKb limit sheet) ws) (settleLeaves (readKb limit sheet) ws)
-  pub judging : Refuses 10 sheet ws (judgeSays (readKb limit sheet) ws) (judgeLeaves (readKb limit sheet) ws)
+  pub opening : Refuses isSetRefusal sheet ws (openSays (readKb limit sheet) ws) (openLeaves (readKb limit sheet) ws)
+  pub striking : Refuses isStrikeRefusal sheet ws (strikeSays (readKb limit sheet) n ws) (strikeLeaves (readKb limit sheet) n ws)
+  pub settling : Refuses isSetRefusal sheet ws (settleSays (readKb limit sheet) ws) (settleLeaves (readKb limit sheet) ws)
+  pub judging : Refuses isSetRefusal sheet ws (judgeSays (readKb limit sheet) ws) (judgeLeaves (readKb limit sheet) ws)
 
 -- ---- for a sheet that is read as s, its view v, and words ws that are enough
 

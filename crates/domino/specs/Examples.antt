@@ -1,11 +1,12 @@
 -- Worked sheets (01, "Sheets to try"): what open, settle and judge answer for each and leave in the words, and strikes. Proved in
--- proofs/Worked.antt. Assumes nothing: these are definitions.
+-- proofs/Worked.antt.
 use Prim.Native.Nat.{ℕ}
+use Rattle.bitset.specs.Bits.{wordsFor}
 use mathlib.Core.List.{List, [], _∷_, _++_}
-use Rattle.tbox.specs.Reading.{readKb}
-use Rattle.tbox.specs.Answers.{limit, readSays}
-use Rattle.tbox.specs.Examples.{s1, s2, s3, s4, s5, s6}
-use Rattle.semantics.specs.Dominoes.{total, wordsFor}
+use Rattle.syntax.specs.Reading.{readKb}
+use Rattle.syntax.specs.Answers.{limit, readSays}
+use Rattle.syntax.specs.Examples.{s1, s2, s3, s4, s5, s6}
+use Rattle.semantics.specs.Dominoes.{total}
 use Rattle.domino.specs.Answers.{openSays, openLeaves, strikeSays, strikeLeaves, settleSays, judgeSays, judgeLeaves}
 
 -- a sheet and what read says of it; words lent; what open says and leaves; what settle says then; what judge says and leaves

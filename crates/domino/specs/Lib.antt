@@ -1,8 +1,5 @@
-pub mod Tables
-pub mod Polarity
-pub mod Sweeps
-pub mod Demands
 pub mod Answers
+pub mod Decides
 pub mod Demanded
-pub mod Reasons
 pub mod Examples
+pub mod Reasons

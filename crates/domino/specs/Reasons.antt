@@ -1,5 +1,5 @@
 -- What a strike tells, and that settle, judge and lists of calls leave what the test without a number leaves (02, N2). Proved in
--- proofs/Reasons.antt. Assumes nothing: these are definitions.
+-- proofs/Reasons.antt.
 use Prim.Native.Nat.{ℕ, _≤_, _<_}
 use mathlib.Core.Path.{_≡_}
 use mathlib.Core.Bool.{Bool, true, false, not}
@@ -7,10 +7,10 @@ use mathlib.Core.List.{List, [], _∷_}
 use lib.Dec.{eqb}
 use Rattle.bitset.specs.Bits.{Set, look}
 use Rattle.elimination.specs.Calls.{Call, runWith, strikeWords, settleWords, actWords}
-use Rattle.tbox.specs.Bounds.{All}
-use Rattle.tbox.specs.Reading.{Reading}
-use Rattle.semantics.specs.Conditions.{View, order, FirstFails, dominoes, defective, conditionAt, defectAt}
-use Rattle.domino.specs.Answers.{held, openLeaves, strikeSays, strikeLeaves, settleLeaves, judgeLeaves}
+use Rattle.syntax.specs.Bounds.{All}
+use Rattle.syntax.specs.Reading.{Reading}
+use Rattle.semantics.specs.Conditions.{View, order, FirstFails, dominoes, defective, conditionAt, defectAt, held}
+use Rattle.domino.specs.Answers.{openLeaves, strikeSays, strikeLeaves, settleLeaves, judgeLeaves}
 use Rattle.domino.specs.Demanded.{StableWords, callsLeave}
 
 -- what strike says of a number: "Absent, not in the set; Struck, in it and loose, and now out; Kept, in it and not loose"

@@ -2,26 +2,20 @@
 ghost use mathlib.Core.Path.{_≡_};
 ghost use Prim.Native.Nat.{_<_};
 ghost use lib.ListN.{length};
-ghost use Rattle.tbox.specs.Reading.{readKb};
-ghost use Rattle.tbox.specs.Answers.{limit};
+ghost use Rattle.syntax.specs.Reading.{readKb};
+ghost use Rattle.syntax.specs.Answers.{limit};
 ghost use Rattle.semantics.specs.Dominoes.{total};
-ghost use Rattle.domino.specs.Tables.{view, partsIn, Enough};
-ghost use Rattle.domino.specs.Answers.{Opens, Strikes, Settles, Judges, StrikesSet};
-use crate::conditions::Parts;
-use crate::conditions::defect;
-use crate::initial::open_set;
-use crate::judging::judge_set;
-use crate::numbers::pow;
-use crate::numbers::words_for;
-use crate::settling::settle_set;
-use tbox::base::Base;
-
-pub mod conditions;
-pub mod demands;
-pub mod initial;
-pub mod judging;
-pub mod numbers;
-pub mod settling;
+ghost use Rattle.domino_conditions.specs.Tables.{view, Enough};
+ghost use Rattle.domino.specs.Answers.{LoadsFor, Opens, Strikes, Settles, Judges, StrikesSet};
+use domino_conditions::conditions::defect;
+use domino_conditions::numbers::pow;
+use domino_conditions::numbers::words_for;
+use domino_initial::initial::open_set;
+use domino_settling::judging::judge_set;
+use domino_settling::settling::settle_set;
+use tbox::base::Loaded;
+use tbox::base::Parts;
+use tbox::base::ROLE_WORDS;
 
 pub enum OpenAnswer {
     // A refusal's number and place.
@@ -63,88 +57,87 @@ pub enum JudgeAnswer {
     Judged(u64, u64, bool),
 }
 
-fn parts_in(b: Base) -> Parts
-    ensures { λ r. ⌜ r ≡ partsIn b ⌝ }
+// Loads a sheet for a call on a set of so many words, which 10 refuses if they are too few.
+fn load_for(sheet: &[u8], words: usize) -> Loaded
+    ensures { λ r. ⌜ LoadsFor (now (sheet .entry)) words r ⌝ }
 {
-    let kind = b.kind;
-    let filler = b.filler;
-    Parts {
-        count: b.parts,
-        roles: b.roles,
-        kind: kind,
-        filler: filler,
+    let loaded = tbox::base::load(sheet);
+    if loaded.fault != 0 {
+        return loaded;
     }
+    let b = loaded.base;
+    let p = b.parts;
+    if words < words_for(p.count, p.roles) {
+        return Loaded {
+            fault: 10,
+            place: 0,
+            base: b,
+        };
+    }
+    loaded
 }
 
 // Writes the initial set and answers its size.
 pub fn open(sheet: &[u8], set: &mut [u64]) -> OpenAnswer
     ensures { λ r. ⌜ Opens (readKb limit (now (sheet .entry))) (now (set .entry)) (now (set .exit)) r ⌝ }
 {
-    let loaded = tbox::base::load(sheet);
+    let loaded = load_for(sheet, set.len());
     if loaded.fault != 0 {
         return OpenAnswer::Refused(loaded.fault, loaded.place);
     }
     let b = loaded.base;
-    if set.len() < words_for(b.parts, b.roles) {
-        return OpenAnswer::Refused(10, 0);
-    }
+    let p = b.parts;
     let role = b.role;
     let good = b.good;
-    OpenAnswer::Opened(open_set(set, parts_in(b), &role, &good))
+    OpenAnswer::Opened(open_set(set, p, &role, &good))
 }
 
 // Takes a domino out if it is in the set and defective.
 pub fn strike(sheet: &[u8], set: &mut [u64], number: usize) -> StrikeAnswer
     ensures { λ r. ⌜ Strikes (readKb limit (now (sheet .entry))) number (now (set .entry)) (now (set .exit)) r ⌝ }
 {
-    let loaded = tbox::base::load(sheet);
+    let loaded = load_for(sheet, set.len());
     if loaded.fault != 0 {
         return StrikeAnswer::Refused(loaded.fault, loaded.place);
     }
     let b = loaded.base;
-    if set.len() < words_for(b.parts, b.roles) {
-        return StrikeAnswer::Refused(10, 0);
-    }
-    if number >= pow(b.parts + b.roles + b.parts + b.roles) {
+    let p = b.parts;
+    if number >= pow(p.count + p.roles + p.count + p.roles) {
         return StrikeAnswer::Refused(11, 0);
     }
     let role = b.role;
     let good = b.good;
-    StrikeAnswer::Tried(strike_set(set, parts_in(b), &role, &good, number))
+    StrikeAnswer::Tried(strike_set(set, p, &role, &good, number))
 }
 
 // Leaves the largest stable subset of the set and answers its size.
 pub fn settle(sheet: &[u8], set: &mut [u64]) -> SettleAnswer
     ensures { λ r. ⌜ Settles (readKb limit (now (sheet .entry))) (now (set .entry)) (now (set .exit)) r ⌝ }
 {
-    let loaded = tbox::base::load(sheet);
+    let loaded = load_for(sheet, set.len());
     if loaded.fault != 0 {
         return SettleAnswer::Refused(loaded.fault, loaded.place);
     }
     let b = loaded.base;
-    if set.len() < words_for(b.parts, b.roles) {
-        return SettleAnswer::Refused(10, 0);
-    }
+    let p = b.parts;
     let role = b.role;
     let good = b.good;
-    SettleAnswer::Settled(settle_set(set, parts_in(b), &role, &good))
+    SettleAnswer::Settled(settle_set(set, p, &role, &good))
 }
 
 // Opens and settles: leaves the canonical set, and answers whether it has a member.
 pub fn judge(sheet: &[u8], set: &mut [u64]) -> JudgeAnswer
     ensures { λ r. ⌜ Judges (readKb limit (now (sheet .entry))) (now (set .entry)) (now (set .exit)) r ⌝ }
 {
-    let loaded = tbox::base::load(sheet);
+    let loaded = load_for(sheet, set.len());
     if loaded.fault != 0 {
         return JudgeAnswer::Refused(loaded.fault, loaded.place);
     }
     let b = loaded.base;
-    if set.len() < words_for(b.parts, b.roles) {
-        return JudgeAnswer::Refused(10, 0);
-    }
+    let p = b.parts;
     let role = b.role;
     let good = b.good;
-    let j = judge_set(set, parts_in(b), &role, &good);
+    let j = judge_set(set, p, &role, &good);
     JudgeAnswer::Judged(j.opening, j.survivors, j.survivors != 0)
 }
 
@@ -152,7 +145,7 @@ pub fn judge(sheet: &[u8], set: &mut [u64]) -> JudgeAnswer
 fn strike_set(
     set: &mut [u64],
     p: Parts,
-    role: &[u64; 80],
+    role: &[u64; ROLE_WORDS],
     good: &[u64; 64],
     number: usize,
 ) -> Outcome

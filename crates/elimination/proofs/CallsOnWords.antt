@@ -3,38 +3,19 @@
 use mathlib.Core.Path.{_≡_, refl, sym, ap, subst, _∙_}
 use mathlib.Core.Bool.{Bool, true, false, not, _&&_, cond}
 use mathlib.Core.List.{List, [], _∷_}
-use Prim.Native.Nat.{ℕ, _*_, _/_, _%_, _≤_, _<_}
+use Prim.Native.Nat.{ℕ, _*_, _≤_, _<_}
 use native.Mathlib.Omega.{arith}
 use lib.Dec.{T, eqb, ltb, eqb→eq, ltb→lt, lt→ltb, T-not, not-T}
-use lib.ListN.{getD, take, drop, length, length-append, List·getD-append}
-use lib.Seq.{drop-set-lt, drop-at}
-use Rattle.bitset.specs.Bits.{Set, bit, look, word, words, areWords, without, cleared}
+use lib.ListN.{take, drop, length}
+use Rattle.bitset.specs.Bits.{Set, look, words, areWords, without, cleared}
 use Rattle.elimination.specs.Sets.{below, Sub, Same}
 use Rattle.elimination.specs.Elimination.{isStable, settled, Monotone, Within, defectiveBy, canonical}
 use Rattle.elimination.specs.Calls.{Call, strike, settle, runWith, act, runCalls, struck, written, actWords, after, Demand3Words}
-use Rattle.bitset.proofs.Facts.{and-left, and-right, and-both, T-same, T-of}
-use Rattle.bitset.proofs.Words.{look-words, words-length, words-are, words-same, are-cleared, length-cleared, look-cleared, are-append, are-drop, front}
+use Rattle.bitset.proofs.Facts.{and-left, and-right, and-both, T-same}
+use Rattle.bitset.proofs.Words.{words-same, are-cleared, length-cleared, look-cleared, front}
 use Rattle.elimination.proofs.Settling.{same-sub, same-sub′, stable-same, defectiveBy-mono, within-remove, within-same, within-stable}
+use Rattle.elimination.proofs.Written.{below-by, written-long, written-are, written-past, written-look, written-spare, drop-cleared}
 use Rattle.elimination.proofs.Calls.{run-seen, run-same, run-sub, run-holds, run-stable, passes-stable}
-
--- the words past the first k do not see a bit cleared
-drop-cleared : (k : ℕ) (ws : List ℕ) (n : ℕ) → n / 64 < k → drop k (cleared ws n) ≡ drop k ws
-unfolding cleared
-drop-cleared k ws n h = drop-set-lt k ws (n / 64) (word 64 (without (bit (getD ws (n / 64) 0)) (n % 64))) h
-
--- the words written have the members below N
-pub look-written : (k N : ℕ) (D : Set) (ws : List ℕ) → Same (64 * k) (look (written k N D ws)) (below N D)
-look-written k N D ws p h =
-    let n = words-length k (below N D) in
-    ap (λ (x : ℕ). bit x (p % 64)) (List·getD-append (words k (below N D)) (drop k ws) 0 (p / 64) (omega arith))
-    ∙ look-words k (below N D) p h
-
--- members below N alone, the same as another set's
-below-by : (k N : ℕ) (D E : Set) → ((p : ℕ) → p < 64 * k → T (D p) → p < N) → Same N D E → Same (64 * k) D (below N E)
-below-by k N D E spare e p h =
-    T-same (D p) (below N E p)
-    (λ u. let q : p < N = spare p h u in and-both (ltb p N) (E p) (lt→ltb p N q) (T-of (e p q) u))
-    (λ u. let q : p < N = ltb→lt p N (and-left (ltb p N) (E p) u) in T-of (sym (e p q)) (and-right (ltb p N) (E p) u))
 
 -- ---- settling in place: a loop that clears the bits of defective members keeps `Within`, and where the set is stable
 -- the words are those of what settling leaves
@@ -48,7 +29,10 @@ module _ (k N : ℕ) (room : N ≤ 64 * k) (defective : Set → ℕ → Bool) (m
       → Within N defective D (look ws) → T (isStable N defective (look ws)) → take k ws ≡ words k (below N (settled N defective D))
   within-ends ws t l spare w r =
       let e = within-stable N defective mono D (look ws) w r in
-      front k ws t l ∙ words-same k (look ws) (below N (settled N defective D)) (below-by k N (look ws) (settled N defective D) spare e)
+      front k ws t l
+      ∙ words-same k (look ws) (below N (settled N defective D))
+      (below-by (64 * k) N (look ws) (settled N defective D)
+      (λ p m h. T-same (look ws p) false (λ u. let q : p < N = spare p h u in omega arith) (λ u. absurd u)) e)
 
 -- a choice by a test
 cond-case : (P : List ℕ → Type 0) (b : Bool) (x y : List ℕ) → (T b → P x) → (T (not b) → P y) → P (cond b x y)
@@ -61,22 +45,15 @@ module _ (k N : ℕ) (room : N ≤ 64 * k) (ws₀ : List ℕ) where
     are : T (areWords ws)
     long : k ≤ length ws
     past : drop k ws ≡ drop k ws₀
-    spare : (p : ℕ) → p < 64 * k → T (look ws p) → p < N
+    spare : (p : ℕ) → N ≤ p → p < 64 * k → look ws p ≡ false
 
   written-intact : (D : Set) (ws : List ℕ) → T (areWords ws) → k ≤ length ws → drop k ws ≡ drop k ws₀ → Intact (written k N D ws)
-  written-intact D ws t l e =
-      let n = words-length k (below N D) in
-      record {
-        are = are-append (words k (below N D)) (drop k ws) (words-are k (below N D)) (are-drop k ws t);
-        long = omega (arith, length-append (words k (below N D)) (drop k ws));
-        past = drop-at (words k (below N D)) (drop k ws) k n ∙ e;
-        spare = λ p h u. ltb→lt p N (and-left (ltb p N) (D p) (T-of (look-written k N D ws p h) u));
-      }
-
-  written-sees : (D : Set) (ws : List ℕ) → Same N (look (written k N D ws)) D
-  written-sees D ws p h =
-      look-written k N D ws p (omega arith)
-      ∙ T-same (ltb p N && D p) (D p) (and-right (ltb p N) (D p)) (and-both (ltb p N) (D p) (lt→ltb p N h))
+  written-intact D ws t l e = record {
+    are = written-are k N D ws t;
+    long = omega (arith, written-long k N D ws l);
+    past = written-past k N D ws ∙ e;
+    spare = written-spare k N D ws;
+  }
 
   module _ (defective : Set → ℕ → Bool) where
     stay : (c : Call) (ws : List ℕ) → Intact ws → Intact (actWords k N defective c ws)
@@ -89,7 +66,7 @@ module _ (k N : ℕ) (room : N ≤ 64 * k) (ws₀ : List ℕ) where
           are = are-cleared ws n (g .are);
           long = omega (arith, length-cleared ws n);
           past = drop-cleared k ws n (omega arith) ∙ g .past;
-          spare = λ p l u. g .spare p l (and-left (look ws p) (not (eqb p n)) (T-of (look-cleared ws n (omega arith) p) u));
+          spare = λ p m l. look-cleared ws n (omega arith) p ∙ ap (λ (b : Bool). b && not (eqb p n)) (g .spare p m l);
         })
         (λ t. g)
     stay settle ws g = written-intact (settled N defective (look ws)) ws (g .are) (g .long) (g .past)
@@ -118,7 +95,7 @@ module _ (k N : ℕ) (room : N ≤ 64 * k) (ws₀ : List ℕ) where
         (and-both (ltb n N) (look ws n && defective (look ws) n) (and-left (ltb n N) (defective (look ws) n) w)
         (and-both (look ws n) (defective (look ws) n) (subst (λ (m : ℕ). T (look ws m)) e u) (and-right (ltb n N) (defective (look ws) n) w))))))
         (and-left (look ws p) (not (eqb p n && (ltb n N && defective (look ws) n)))))
-    does settle ws g = written-sees (settled N defective (look ws)) ws
+    does settle ws g = written-look k N (settled N defective (look ws)) ws room
 
     stays : (cs : List Call) (ws : List ℕ) → Intact ws → Intact (runWith (actWords k N defective) cs ws)
     stays [] ws g = g
@@ -135,7 +112,7 @@ module _ (k N : ℕ) (initial : Set) (lacks : Set → ℕ → Bool) (mono : Mono
       let lm : Monotone N (defectiveBy initial lacks) = defectiveBy-mono N initial lacks mono in
       run-seen N defective lm (List ℕ) look (actWords k N defective) (Intact k N room ws) (stay k N room ws defective)
       (does k N room ws defective) cs opened (written-intact k N room ws initial ws t l refl) p h
-      ∙ run-same N defective lm cs (look opened) initial (written-sees k N room ws initial ws) p h
+      ∙ run-same N defective lm cs (look opened) initial (written-look k N initial ws room) p h
 
   -- no call puts anything in
   pub after-initial : (cs : List Call) (ws : List ℕ) → T (areWords ws) → k ≤ length ws
@@ -160,7 +137,7 @@ module _ (k N : ℕ) (initial : Set) (lacks : Set → ℕ → Bool) (mono : Mono
         exact = λ r.
             front k (after k N initial lacks cs ws) (end .are) (end .long)
             ∙ words-same k (look (after k N initial lacks cs ws)) (below N (canonical N initial lacks))
-            (below-by k N (look (after k N initial lacks cs ws)) (canonical N initial lacks) (end .spare) (arrived r));
+            (below-by (64 * k) N (look (after k N initial lacks cs ws)) (canonical N initial lacks) (end .spare) (arrived r));
         ends = λ r w z.
             stable-same N defective lm (runCalls N defective cs initial) (look (after k N initial lacks cs ws)) (λ p h. sym (seen p h)) (passes-stable N defective lm r cs initial w z);
       }

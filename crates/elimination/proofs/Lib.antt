@@ -2,5 +2,6 @@ pub mod Tests
 pub mod Settling
 pub mod Calls
 pub mod Passes
+pub mod Written
 pub mod CallsOnWords
 pub mod Tables

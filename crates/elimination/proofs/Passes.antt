@@ -1,4 +1,4 @@
--- `hasPasses` computes whether a list of calls has k passes in it, one after another. Assumes nothing.
+-- `hasPasses` computes whether a list of calls has k passes in it, one after another.
 use mathlib.Core.Path.{_≡_, refl, sym, ap, subst, _∙_}
 use mathlib.Core.Bool.{Bool, true, false, _&&_}
 use mathlib.Core.List.{List, [], _∷_, _++_, append-assoc, append-nil}
@@ -6,8 +6,8 @@ use Prim.Native.Nat.{ℕ, zero, suc}
 use lib.Dec.{T, eqb}
 use Rattle.elimination.specs.Sets.{every}
 use Rattle.elimination.specs.Calls.{Call, strike, settle, strikes, someCut, pass, Passes, hasPasses}
-use Rattle.bitset.proofs.Facts.{and-left, and-right, and-both}
-use Rattle.elimination.proofs.Tests.{or-cases, or-left, or-right, every-at, every-by}
+use Rattle.bitset.proofs.Facts.{and-left, and-right, and-both, or-cases, or-left, or-right}
+use Rattle.elimination.proofs.Tests.{every-at, every-by}
 
 someCut-at : (f : List Call → List Call → Bool) (pre cs : List Call) → T (someCut f pre cs) → (x : List Call) × (y : List Call) × (cs ≡ x ++ y) × T (f (pre ++ x) y)
 someCut-at f pre [] t = ([], [], refl, subst (λ (l : List Call). T (f l [])) (sym (append-nil pre)) t)

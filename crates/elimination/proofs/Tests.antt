@@ -1,32 +1,12 @@
--- Tests as facts: what passes and fails, and tests of each number below n. Assumes nothing.
+-- Tests of each number below n.
 use mathlib.Core.Path.{sym, subst}
-use mathlib.Core.Bool.{Bool, true, false, not, _&&_, _||_}
+use mathlib.Core.Bool.{Bool, not}
 use Prim.Native.Nat.{ℕ, zero, suc, _<_}
 use native.Mathlib.Nat.{not-suc-le-zero, le-refl}
 use native.Mathlib.Omega.{arith}
-use lib.Dec.{T, T-not, not-T}
-use Rattle.bitset.proofs.Facts.{either, and-left, and-right, and-both, below-suc}
+use lib.Dec.{T}
+use Rattle.bitset.proofs.Facts.{either, and-left, and-right, and-both, not-and-right, or-cases, or-left, or-right, below-suc}
 use Rattle.elimination.specs.Sets.{every, some}
-
-pub not-and-right : (a b : Bool) → T a → T (not (a && b)) → T (not b)
-not-and-right true b s t = t
-not-and-right false b s t = absurd s
-
-pub not-not : (b : Bool) → T (not (not b)) → T b
-not-not true t = tt
-not-not false t = absurd t
-
-pub or-cases : {C : Type 0} (a b : Bool) → T (a || b) → (T a → C) → (T b → C) → C
-or-cases true b t f g = f tt
-or-cases false b t f g = g t
-
-pub or-left : (a b : Bool) → T a → T (a || b)
-or-left true b t = tt
-or-left false b t = absurd t
-
-pub or-right : (a b : Bool) → T b → T (a || b)
-or-right true b t = tt
-or-right false b t = t
 
 pub every-at : (n : ℕ) (f : ℕ → Bool) → T (every n f) → (p : ℕ) → p < n → T (f p)
 unfolding every
@@ -66,12 +46,3 @@ some-by (suc n) f p h t =
 -- for a proof that a test of defects is monotone
 pub some-mono : (n : ℕ) (f g : ℕ → Bool) → ((p : ℕ) → p < n → T (f p) → T (g p)) → T (some n f) → T (some n g)
 some-mono n f g h t = let r = some-at n f t in some-by n g (r .0) (r .1) (h (r .0) (r .1) (r .2))
-
-pub not-mono : (a b : Bool) → (T a → T b) → T (not b) → T (not a)
-not-mono a b f t = not-T a (λ u. T-not b t (f u))
-
-pub and-mono : (a b c d : Bool) → (T a → T c) → (T b → T d) → T (a && b) → T (c && d)
-and-mono a b c d f g t = and-both c d (f (and-left a b t)) (g (and-right a b t))
-
-pub or-mono : (a b c d : Bool) → (T a → T c) → (T b → T d) → T (a || b) → T (c || d)
-or-mono a b c d f g t = or-cases a b t (λ u. or-left c d (f u)) (λ u. or-right c d (g u))

@@ -1,5 +1,5 @@
 -- Lists of strikes and settlings, on sets and on words, and what demand 3 says of them. Document 01, "Strikes and settlings
--- in a row". Assumes nothing: these are definitions.
+-- in a row".
 use mathlib.Core.Path.{_≡_}
 use mathlib.Core.Bool.{Bool, true, false, not, _&&_, _||_, cond}
 use mathlib.Core.List.{List, [], _∷_, _++_}

@@ -1,5 +1,5 @@
 -- Elimination: the defective members of a set of numbers below N are removed until none is left. What makes a number
--- defective is a parameter: nothing here knows what a knowledge base is. Assumes nothing: these are definitions.
+-- defective is a parameter: nothing here knows what a knowledge base is.
 use mathlib.Core.Bool.{Bool, true, false, not, _&&_, _||_}
 use mathlib.Core.List.{List, [], _∷_}
 use Prim.Native.Nat.{ℕ, zero, suc, _<_}

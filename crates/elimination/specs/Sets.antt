@@ -1,4 +1,4 @@
--- Sets of numbers, of which only the members below a bound count. Assumes nothing: these are definitions.
+-- Sets of numbers, of which only the members below a bound count.
 use mathlib.Core.Path.{_≡_}
 use mathlib.Core.Bool.{Bool, true, false, _&&_, _||_}
 use Prim.Native.Nat.{ℕ, zero, suc, _<_}

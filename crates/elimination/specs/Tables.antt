@@ -1,4 +1,4 @@
--- Elimination that computes: each set is written to words before the next step. Assumes nothing: these are definitions.
+-- Elimination that computes: each set is written to words before the next step.
 use mathlib.Core.Bool.{Bool, true, false, _&&_}
 use mathlib.Core.List.{List, [], _∷_}
 use Prim.Native.Nat.{ℕ, zero, suc}

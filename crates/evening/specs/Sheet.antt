@@ -1,4 +1,4 @@
--- How much the evening program reads. Assumes nothing: this is a definition.
+-- How much the evening program reads.
 use Prim.Native.Nat.{ℕ}
 
 -- "Input beyond 766 bytes is not read"

@@ -1,5 +1,6 @@
 // Loads worked sheets and writes the flattened knowledge base of each, to be compared with what a separate program writes.
 ghost use Prim.Native.Nat.{_<_, _≤_};
+use tbox::base::ROLE_WORDS;
 
 fn text(b: &[u8]) {
     io::write_all(1, b);
@@ -16,7 +17,7 @@ fn word(w: u64) {
 }
 
 // A part's line: kind, filler, and the role sets of its role, four words.
-fn part(kind: u8, filler: u8, role: &[u64; 80], i: usize)
+fn part(kind: u8, filler: u16, role: &[u64; ROLE_WORDS], i: usize)
     requires { ⌜ i < 20 ⌝ }
 {
     text(b"part");
@@ -29,7 +30,7 @@ fn part(kind: u8, filler: u8, role: &[u64; 80], i: usize)
     text(b"\n");
 }
 
-fn parts(kind: &[u8; 20], filler: &[u8; 20], role: &[u64; 80], c: usize)
+fn parts(kind: &[u8; 20], filler: &[u16; 20], role: &[u64; ROLE_WORDS], c: usize)
     requires { ⌜ c ≤ 20 ⌝ }
 {
     for i in 0..c {
@@ -75,15 +76,16 @@ fn report(sheet: &[u8]) {
     let b = l.base;
     text(b"kb");
     number(b.names as u64);
-    number(b.roles as u64);
-    number(b.parts as u64);
+    let p = b.parts;
+    number(p.roles as u64);
+    number(p.count as u64);
     text(b"\n");
-    let kind = b.kind;
-    let filler = b.filler;
+    let kind = p.kind;
+    let filler = p.filler;
     let role = b.role;
-    parts(&kind, &filler, &role, b.parts);
+    parts(&kind, &filler, &role, p.count);
     let good = b.good;
-    labels(&good, words_for(b.parts));
+    labels(&good, words_for(p.count));
 }
 
 fn main() {

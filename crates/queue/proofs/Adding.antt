@@ -1,5 +1,5 @@
 -- Totals: one answer more is added at the end, the three kinds of answer make up the sheets, and what slots that may come add up
--- to is small. Assumes nothing.
+-- to is small.
 use Prim.Native.Nat.{ℕ, _+_, _*_, _≤_, _<_}
 use mathlib.Core.Path.{_≡_, refl, sym, ap, _∙_}
 use mathlib.Core.List.{List, [], _∷_, _++_, map}

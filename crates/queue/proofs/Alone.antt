@@ -1,4 +1,4 @@
--- What judging a sheet alone says: whatever the words hold, and in which forms. Assumes nothing.
+-- What judging a sheet alone says: whatever the words hold, and in which forms.
 use Prim.Native.Nat.{ℕ, _≤_, _<_}
 use mathlib.Core.Path.{_≡_, refl, sym, ap, _∙_}
 use mathlib.Core.Bool.{Bool, true, false, cond}
@@ -8,8 +8,8 @@ use native.Mathlib.Omega.{arith}
 use lib.Dec.{eqb, ltb}
 use lib.ListN.{length}
 use borrow.Author.Tests.{eqb-true, eqb-false}
-use Rattle.tbox.specs.Reading.{readKb}
-use Rattle.tbox.specs.Answers.{limit}
+use Rattle.syntax.specs.Reading.{readKb}
+use Rattle.syntax.specs.Answers.{limit}
 use Rattle.domino.specs.declared.JudgeAnswer.{JudgeAnswer}
 use Rattle.domino.specs.Answers.{judgeNumbers, judgeSays}
 use Rattle.domino.proofs.Judged.{judge-by-length, Forms, judge-forms}

@@ -1,4 +1,4 @@
--- The cases of what judge answers and of a slot's answer, as the code takes them apart. Assumes nothing.
+-- The cases of what judge answers and of a slot's answer, as the code takes them apart.
 use Prim.Native.Nat.{ℕ, _+_, _*_, _≤_, _<_}
 use mathlib.Core.Path.{_≡_, refl, sym, ap, subst, _∙_}
 use mathlib.Core.Bool.{Bool, true, false, false≢true}
@@ -6,8 +6,8 @@ use mathlib.Core.List.{List}
 use native.Mathlib.Omega.{arith}
 use lib.ListN.{length, getD, take, drop}
 use borrow.Author.Tests.{lt-ltb, le-ltb}
-use Rattle.tbox.specs.Reading.{readKb}
-use Rattle.tbox.specs.Answers.{limit}
+use Rattle.syntax.specs.Reading.{readKb}
+use Rattle.syntax.specs.Answers.{limit}
 use Rattle.domino.specs.declared.JudgeAnswer.{JudgeAnswer}
 use Rattle.domino.specs.declared.JudgeAnswer.the-variants.{Refused as NotJudged, Judged}
 use Rattle.domino.specs.Answers.{judgeNumbers, Judges}

@@ -1,4 +1,4 @@
--- What a step looks for, by the tests that the code makes. Assumes nothing.
+-- What a step looks for, by the tests that the code makes.
 use Prim.Native.Nat.{ℕ, _≤_, _<_}
 use mathlib.Core.Path.{_≡_, refl}
 use mathlib.Core.Bool.{Bool, true, false, and-true, and-false, _&&_, cond}

@@ -1,4 +1,4 @@
--- What a step reads of the input is enough: it takes, adds and prints what it would with all of it. Assumes nothing.
+-- What a step reads of the input is enough: it takes, adds and prints what it would with all of it.
 use Prim.Native.Nat.{ℕ, suc, _≤_}
 use mathlib.Core.Path.{_≡_, refl, sym, ap, _∙_}
 use mathlib.Core.Bool.{Bool, true, false, true≢false, and-eq-true-iff, and-false, _&&_, cond}

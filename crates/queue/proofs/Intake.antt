@@ -1,4 +1,4 @@
--- Bytes read for a step, behind its kind. Assumes nothing.
+-- Bytes read for a step, behind its kind.
 use Prim.Native.Nat.{ℕ, _+_, _-_, _≤_}
 use mathlib.Core.Path.{_≡_, sym, ap, subst, _∙_}
 use mathlib.Core.List.{List}

@@ -1,5 +1,5 @@
 -- The program's steps print what is said of the queue; bytes after its end are ignored; and what is said of slots laid one after
--- another. Assumes nothing.
+-- another.
 use Prim.Native.Nat.{ℕ, zero, suc, _+_, _-_, _≤_}
 use mathlib.Core.Path.{_≡_, refl, sym, ap, _∙_}
 use mathlib.Core.Bool.{Bool, true, false, true≢false, and-eq-true-iff, _&&_, cond}

@@ -1,4 +1,4 @@
--- From what a step's calls answer to what the step does, and from a step to the next. Assumes nothing.
+-- From what a step's calls answer to what the step does, and from a step to the next.
 use Prim.Native.Nat.{ℕ, _+_, _≤_, _<_}
 use mathlib.Core.Path.{_≡_, refl, sym, ap, subst, _∙_}
 use mathlib.Core.Bool.{Bool, true, false, not, false≢true, and-eq-true-iff}

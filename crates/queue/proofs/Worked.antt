@@ -1,4 +1,4 @@
--- What the queue program prints for worked queues is what document 02 has, byte for byte. Assumes nothing.
+-- What the queue program prints for worked queues is what document 02 has, byte for byte.
 use Prim.Native.Nat.{ℕ, _-_, _≤_}
 use mathlib.Core.Path.{_≡_, refl, ap, ap₂, _∙_}
 use mathlib.Core.List.{List, [], _∷_, _++_, map}
@@ -6,9 +6,9 @@ use native.Mathlib.Omega.{arith}
 use lib.ListN.{length, take, replicate, length-append, length-replicate, length-map}
 use lib.Seq.{take-append-seam}
 use borrow.Author.Tests.{le-ltb}
-use Rattle.tbox.specs.Reading.{readKb}
-use Rattle.tbox.specs.Answers.{limit}
-use Rattle.tbox.specs.Examples.{s1, s2}
+use Rattle.syntax.specs.Reading.{readKb}
+use Rattle.syntax.specs.Answers.{limit}
+use Rattle.syntax.specs.Examples.{s1, s2}
 use Rattle.domino.specs.Answers.{judgeSays}
 use Rattle.domino.proofs.Worked.{rows-right}
 use Rattle.report.specs.Text.{text, decimalIn, decimal}
@@ -16,8 +16,7 @@ use Rattle.domino.proofs.Judged.{more-words}
 use Rattle.report.proofs.Worked.{set4096, many, lent, judgedAt}
 use Rattle.queue.specs.declared.slots.SlotAnswer.{SlotAnswer}
 use Rattle.queue.specs.declared.slots.SlotAnswer.the-variants.{Met, Unmet, Refused}
-use Rattle.queue.specs.Queue.{answerOf, alone, lengthIn, sheetIn, slotSays, slotFirst, endFirst, slotFor, slotsLaid, laid, Whole, Fit}
-use Rattle.queue.specs.Queue.{metIn, unmetIn, refusedIn, survivorsIn, sum, totalsOf}
+use Rattle.queue.specs.Queue.{answerOf, alone, lengthIn, sheetIn, slotSays, slotFirst, endFirst, slotFor, slotsLaid, laid, Whole, Fit, metIn, unmetIn, refusedIn, survivorsIn, sum, totalsOf}
 use Rattle.queue.specs.Lines.{slotLine, slotLines, totalsLine, most, printed}
 use Rattle.queue.specs.Steps.{takes}
 use Rattle.queue.proofs.Running.{laid-printed, cut-printed}

@@ -1,4 +1,4 @@
--- The lines of a slot, from the pieces that are put. Assumes nothing.
+-- The lines of a slot, from the pieces that are put.
 use Prim.Native.Nat.{ℕ}
 use mathlib.Core.Path.{_≡_}
 use mathlib.Core.List.{List, _++_}

@@ -1,4 +1,4 @@
--- What the queue program prints (02, N1). Assumes nothing: these are definitions.
+-- What the queue program prints (02, N1).
 use Prim.Native.Nat.{ℕ, suc}
 use Prim.Native.String.{String}
 use mathlib.Core.Bool.{Bool, cond}

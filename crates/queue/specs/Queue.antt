@@ -1,13 +1,13 @@
--- The six o'clock queue (02, N1): from its bytes to what is said of it. Assumes nothing: these are definitions.
+-- The six o'clock queue (02, N1): from its bytes to what is said of it.
 use Prim.Native.Nat.{ℕ, zero, suc, _+_, _-_, _*_, _/_, _%_, _≤_}
 use mathlib.Core.Path.{_≡_}
 use mathlib.Core.Bool.{Bool, _&&_, cond}
 use mathlib.Core.List.{List, [], _∷_, _++_}
 use lib.Dec.{eqb, ltb}
 use lib.ListN.{length, getD, take, drop, replicate}
-use Rattle.tbox.specs.Bounds.{All}
-use Rattle.tbox.specs.Reading.{readKb}
-use Rattle.tbox.specs.Answers.{limit}
+use Rattle.syntax.specs.Bounds.{All}
+use Rattle.syntax.specs.Reading.{readKb}
+use Rattle.syntax.specs.Answers.{limit}
 use Rattle.domino.specs.Answers.{judgeSays}
 use Rattle.queue.specs.declared.slots.SlotAnswer.{SlotAnswer}
 use Rattle.queue.specs.declared.slots.SlotAnswer.the-variants.{Met, Unmet, Refused}

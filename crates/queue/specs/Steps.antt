@@ -1,4 +1,4 @@
--- The program's steps: each takes the front of the input and prints a line. Assumes nothing: these are definitions.
+-- The program's steps: each takes the front of the input and prints a line.
 use Prim.Native.Nat.{ℕ, zero, suc, _+_, _*_, _≤_}
 use mathlib.Core.Path.{_≡_}
 use mathlib.Core.Bool.{Bool, false, _&&_, cond}
@@ -10,15 +10,14 @@ use Rattle.io.specs.Counts.{Counts}
 use Rattle.console.specs.declared.Input.{Input}
 use Rattle.console.specs.declared.Input.the-variants.{Failed, Got}
 use Rattle.report.specs.Text.{Puts}
-use Rattle.tbox.specs.Reading.{readKb}
-use Rattle.tbox.specs.Answers.{limit}
+use Rattle.syntax.specs.Reading.{readKb}
+use Rattle.syntax.specs.Answers.{limit}
 use Rattle.domino.specs.Answers.{judgeLeaves}
 use Rattle.queue.specs.declared.slots.SlotAnswer.{SlotAnswer}
 use Rattle.queue.specs.declared.totals.Totals.{Totals}
 use Rattle.queue.specs.declared.steps.Stepped.{Stepped}
 use Rattle.queue.specs.declared.Turned.{Turned}
-use Rattle.queue.specs.Queue.{alone, lengthIn, sheetIn, slotSays, kindOf, slotFirst, slotOf, endFirst}
-use Rattle.queue.specs.Queue.{metIn, unmetIn, refusedIn, survivorsIn, totalsOf}
+use Rattle.queue.specs.Queue.{alone, lengthIn, sheetIn, slotSays, kindOf, slotFirst, slotOf, endFirst, metIn, unmetIn, refusedIn, survivorsIn, totalsOf}
 use Rattle.queue.specs.Lines.{slotLine, lastLine, most}
 
 -- what a slot leaves in the lent words: what judge leaves for its sheet

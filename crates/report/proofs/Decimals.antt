@@ -1,4 +1,4 @@
--- The decimal digits of a number are the kit's digits of it, of which there are fewest. Assumes nothing.
+-- The decimal digits of a number are the kit's digits of it, of which there are fewest.
 use Prim.Native.Nat.{ℕ, zero, suc, _+_, _-_, _/_, _%_, _^_, _≤_, _<_}
 use mathlib.Core.Path.{_≡_, refl, ap, ap₂, _∙_}
 use mathlib.Core.Bool.{Bool, true, false, cond}

@@ -1,5 +1,4 @@
 -- A sheet of 766 bytes or more is refused, and by its first 766 bytes: what the evening program does not read says nothing.
--- Assumes nothing.
 use Prim.Native.Nat.{ℕ, zero, suc, _+_, _-_, _*_, _≤_}
 use mathlib.Core.Path.{_≡_, refl, ap}
 use mathlib.Core.Bool.{Bool, true, false, cond}
@@ -9,34 +8,16 @@ use lib.Dec.{ltb, eqb}
 use lib.ListN.{length, getD, take}
 use lib.Seq.{getD-take, length-take-le, take-all}
 use borrow.Author.Tests.{lt-ltb, le-ltb, ltb-true, ltb-false}
-use Rattle.tbox.specs.declared.records.Shape.{Shape}
-use Rattle.tbox.specs.Shapes.{within, shapeOf}
-use Rattle.tbox.specs.Scan.{State, start, Scanning, refused, after, recordFault, recordAfter, scan, scanSheet}
-use Rattle.tbox.specs.Reading.{refusal, reading, readKb}
+use Rattle.records.specs.Shapes.{shapeOf}
+use Rattle.records.specs.Scan.{State, start, Scanning, refused, after, recordFault, recordAfter, scan, scanSheet}
+use Rattle.syntax.specs.Reading.{refusal, reading, readKb}
+use Rattle.records.proofs.KindTable.{bounds}
 use Rattle.report.specs.Lines.{printed}
-
--- a record's body has at most two bytes
-body-small : (k : ℕ) → shapeOf k .body ≤ 2
-unfolding shapeOf
-body-small k =
-    pick _ _ (within 0x01 0x02 k) (omega arith)
-    (pick _ _ (eqb k 0x03) (omega arith)
-    (pick _ _ (eqb k 0x04) (omega arith)
-    (pick _ _ (within 0x05 0x06 k) (omega arith)
-    (pick _ _ (within 0x07 0x08 k) (omega arith)
-    (pick _ _ (within 0x10 0x11 k) (omega arith)
-    (pick _ _ (eqb k 0x12) (omega arith)
-    (pick _ _ (within 0x13 0x14 k) (omega arith)
-    (pick _ _ (eqb k 0x20) (omega arith) (omega arith)))))))))
-  where
-    pick : (x y : Shape) (b : Bool) → x .body ≤ 2 → y .body ≤ 2 → cond b x y .body ≤ 2
-    pick x y true p q = p
-    pick x y false p q = q
 
 module _ (n : ℕ) (sheet : List ℕ) (long : n ≤ length sheet) (st : State) where
   uncut : (l : List ℕ) → st .at + 3 ≤ length l → ltb (length l - (st .at + 1)) (shapeOf (getD sheet (st .at) 0) .body) ≡ false
   uncut l h =
-      let f : shapeOf (getD sheet (st .at) 0) .body ≤ length l - (st .at + 1) = omega (arith, body-small (getD sheet (st .at) 0)) in
+      let f : shapeOf (getD sheet (st .at) 0) .body ≤ length l - (st .at + 1) = omega (arith, bounds (getD sheet (st .at) 0) .body) in
       le-ltb (length l - (st .at + 1)) (shapeOf (getD sheet (st .at) 0) .body) f
 
   -- the record at the state's place is read alike
@@ -61,7 +42,7 @@ module _ (n : ℕ) (sheet : List ℕ) (long : n ≤ length sheet) (st : State) w
 -- the next record starts at most three bytes on
 after-near : (sheet : List ℕ) (st : State) (room : ℕ) → st .at + 3 * suc room ≤ 765 → recordAfter sheet st .at + 3 * room ≤ 765
 unfolding recordAfter after
-after-near sheet st room h = omega (arith, body-small (getD sheet (st .at) 0))
+after-near sheet st room h = omega (arith, bounds (getD sheet (st .at) 0) .body)
 
 -- a state that has come three bytes a record or fewer, with room for the rest
 module _ (sheet : List ℕ) (long : 766 ≤ length sheet) where

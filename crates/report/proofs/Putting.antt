@@ -1,4 +1,4 @@
--- Laws of bytes put into a buffer: one text after another is both as one, and what stands in front. Assumes nothing.
+-- Laws of bytes put into a buffer: one text after another is both as one, and what stands in front.
 use Prim.Native.Nat.{ℕ, _+_, _≤_}
 use mathlib.Core.Path.{_≡_, refl, sym, ap, _∙_}
 use mathlib.Core.List.{List, _++_, append-assoc}

@@ -1,17 +1,19 @@
--- From what read and judge answer to the evening program's lines. Assumes nothing.
+-- From what read and judge answer to the evening program's lines.
 use Prim.Native.Nat.{ℕ, _<_}
-use mathlib.Core.Path.{_≡_, refl, sym, ap, subst, _∙_}
+use mathlib.Core.Path.{_≡_, sym, ap, subst, _∙_}
 use mathlib.Core.Bool.{Bool, true, false}
 use mathlib.Core.List.{List, [], _∷_, _++_}
 use native.Mathlib.Omega.{arith}
 use lib.ListN.{length}
 use Rattle.tbox.specs.declared.ReadAnswer.{ReadAnswer}
 use Rattle.tbox.specs.declared.ReadAnswer.the-variants.{Refused, Read}
-use Rattle.tbox.specs.Reading.{Reading, refusal, kb}
-use Rattle.tbox.specs.Answers.{readNumbers, readSays}
+use Rattle.syntax.specs.Reading.{Reading, refusal, kb}
+use Rattle.tbox.specs.Answers.{readNumbers}
+use Rattle.syntax.specs.Answers.{readSays}
 use Rattle.domino.specs.declared.JudgeAnswer.{JudgeAnswer}
 use Rattle.domino.specs.declared.JudgeAnswer.the-variants.{Refused as NotJudged, Judged}
-use Rattle.domino.specs.Answers.{judgeNumbers, judgeSays, judgeLeaves, Judges}
+use Rattle.domino.specs.Answers.{judgeNumbers, judgeSays, Judges}
+use Rattle.domino.proofs.SpeltOut.{judge-leaves-refusal}
 use Rattle.report.specs.Text.{Puts}
 use Rattle.report.specs.Lines.{refusedLine, countsLine, sizesLine, verdictLine, judgedLines, eveningLines, Reports}
 
@@ -35,10 +37,10 @@ unequal a b e h = absurd (omega (arith, ap length e))
 -- read refuses
 refused : (s : Reading) (ws before after : List ℕ) (r n p : ℕ) → n ∷ p ∷ [] ≡ readSays s → Puts (refusedLine n p) 0 before after r
     → Reports s ws ws before after r
-unfolding readSays eveningLines judgeLeaves
+unfolding readSays eveningLines
 refused (refusal m q) ws before after r n p x puts =
     let i : m ≡ n = cc in let j : q ≡ p = cc in
-    record { lines = rw (i, j) puts; set = refl }
+    record { lines = rw (i, j) puts; set = sym (judge-leaves-refusal ws m q) }
 refused (kb k) ws before after r n p x puts = unequal (n ∷ p ∷ []) _ x (omega arith)
 
 -- read answers its counts, and judge answers

@@ -1,5 +1,5 @@
 -- What the evening program prints for S1, S2 and a refused sheet is what document 01 has, byte for byte; and with 4,096 words
--- "c + L of 10 to 12 is refused with 10". Assumes nothing.
+-- "c + L of 10 to 12 is refused with 10".
 use Prim.Native.Nat.{ℕ, _+_, _*_, _≤_, _<_}
 use mathlib.Core.Path.{_≡_, sym, ap, _∙_}
 use mathlib.Core.Bool.{false}
@@ -8,12 +8,13 @@ use native.Mathlib.Nat.{pow-le-pow-right}
 use native.Mathlib.Omega.{arith}
 use lib.ListN.{length, getD, replicate, length-replicate}
 use borrow.Author.Tests.{lt-ltb, le-ltb}
-use Rattle.tbox.specs.Reading.{Kb, Reading, refusal, kb, partsOf, readKb}
-use Rattle.tbox.specs.Answers.{limit, readSays}
-use Rattle.tbox.specs.Examples.{Row as ReadRow, s1, s2}
-use Rattle.tbox.proofs.Worked.{rows-right as reads-right}
+use Rattle.syntax.specs.Reading.{Kb, Reading, refusal, kb, partsOf, readKb}
+use Rattle.syntax.specs.Answers.{limit, readSays}
+use Rattle.syntax.specs.Examples.{Row as ReadRow, s1, s2}
+use Rattle.syntax.proofs.Worked.{rows-right as reads-right}
 use Rattle.semantics.specs.Views.{kbView}
-use Rattle.domino.specs.Answers.{held, isShort, judgeSays}
+use Rattle.semantics.specs.Conditions.{held}
+use Rattle.domino.specs.Answers.{isShort, judgeSays}
 use Rattle.domino.specs.Examples.{Row}
 use Rattle.domino.proofs.Judged.{more-words, judge-short}
 use Rattle.domino.proofs.Worked.{rows-right}

@@ -1,12 +1,12 @@
--- The lines that the evening program prints (01, "The evening program"). Assumes nothing: these are definitions.
+-- The lines that the evening program prints (01, "The evening program").
 use Prim.Native.Nat.{ℕ}
 use mathlib.Core.Path.{_≡_}
 use mathlib.Core.Bool.{Bool, cond}
 use mathlib.Core.List.{List, _++_}
 use lib.Dec.{eqb}
 use lib.ListN.{length, getD, replicate}
-use Rattle.tbox.specs.Reading.{Reading, refusal, kb, partsOf, readKb}
-use Rattle.tbox.specs.Answers.{limit}
+use Rattle.syntax.specs.Reading.{Reading, refusal, kb, partsOf, readKb}
+use Rattle.syntax.specs.Answers.{limit}
 use Rattle.domino.specs.Answers.{judgeSays, judgeLeaves}
 use Rattle.report.specs.Text.{text, labelled, Puts}
 

@@ -1,4 +1,4 @@
--- Texts and numbers as bytes, and what it is to put bytes into a buffer. Assumes nothing: these are definitions.
+-- Texts and numbers as bytes, and what it is to put bytes into a buffer.
 use Prim.Native.Nat.{ℕ, zero, suc, _+_, _/_, _%_, _≤_}
 use Prim.Native.Char.{code}
 use Prim.Native.String.{String, [] as noMore, _∷_ as _andThen_}

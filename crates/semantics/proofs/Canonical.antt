@@ -1,5 +1,5 @@
 -- The canonical domino set is the largest stable set of dominoes, and the only one; what is stable as a set of numbers is so as a
--- set of dominoes. Assumes nothing.
+-- set of dominoes.
 use mathlib.Core.Path.{_≡_, sym as flip, ap, _∙_, subst, fun-ext}
 use mathlib.Core.Bool.{true, not, _&&_}
 use Prim.Native.Nat.{ℕ, _*_, _^_, _<_}

@@ -1,4 +1,4 @@
--- Of which condition a domino's defect is the number; a larger set has fewer defective dominoes. Assumes nothing.
+-- Of which condition a domino's defect is the number; a larger set has fewer defective dominoes.
 use mathlib.Core.Path.{_≡_, refl, sym as flip, ap, subst, _∙_}
 use mathlib.Core.Bool.{Bool, true, false, not, _&&_, _||_, cond}
 use mathlib.Core.List.{List, [], _∷_, _++_}
@@ -6,11 +6,11 @@ use Prim.Native.Nat.{ℕ, _*_, _^_, _≤_, _<_}
 use native.Mathlib.Omega.{arith}
 use lib.Dec.{eqb}
 use Rattle.bitset.specs.Bits.{Set, bit}
+use Rattle.bitset.proofs.Facts.{not-mono}
 use Rattle.elimination.specs.Sets.{some}
 use Rattle.elimination.specs.Elimination.{Monotone}
-use Rattle.elimination.proofs.Tests.{not-mono}
 use Rattle.elimination.proofs.Settling.{defectiveBy-mono}
-use Rattle.tbox.specs.Bounds.{All}
+use Rattle.syntax.specs.Bounds.{All}
 use Rattle.semantics.specs.Dominoes.{Dominoes, Domino, number, leftOf, rolesOf, rightOf, inverse, numbered}
 use Rattle.semantics.specs.Conditions.{View, order, firstFailing, FirstFails, kb, ex, uni, witness, delex, deluni, sym, condition, defect, initially, sustained, dominoes, initial, lacks, defective, defectAt}
 use Rattle.semantics.proofs.Truths.{is-true, of-true, and-l, and-r, and-i, imp-e, imp-i, all-at, all-intro, any-intro, any-found}

@@ -1,5 +1,4 @@
 -- Flattening flattens, by each faithful lookup: its parts and flattened axioms lay out every axiom, and nothing else is there.
--- Assumes nothing.
 use Prim.Native.Nat.{ℕ, zero, suc, _+_, _≤_, _<_}
 use native.Mathlib.Omega.{arith}
 use mathlib.Core.Path.{_≡_, refl, sym, ap, _∙_, subst}
@@ -8,13 +7,13 @@ use mathlib.Core.Option.{Option, none, some}
 use mathlib.Core.List.{List, [], _∷_, _++_, append-assoc}
 use lib.ListN.{length, length-append, List·getD-append}
 use lib.Seq.{getD-append-seam, getD-append-add}
-use Rattle.tbox.specs.Concepts.{Role, Concept, topC, bottomC, nameC, notC, andC, orC, existsC, forallC, Axiom}
-use Rattle.tbox.specs.Normal.{Tag, Nf, topN, bottomN, nameN, notN, andN, orN, existsN, forallN, plain, negated, axiomNf}
-use Rattle.tbox.specs.Flatten.{Atom, Filler, atomic, fresh, Part, nameP, freshP, existsP, forallP, Flat, partF, notF, orF, atom, Pending, whole, guarded, Walked, alike, Lookup, shared, separate, placed, meetOne, walkBy, walkPendingBy, Flattening, runBy, nameParts, pendings, flattenBy, flatten, noPart, partAt}
-use Rattle.tbox.specs.Bounds.{All, NamesBelow, EachRole, AxiomNames, AxiomRoles}
-use Rattle.tbox.proofs.Alike.{exists-alike, forall-alike, found-at}
-use Rattle.tbox.proofs.Queue.{Left, left-start, left-step, left-end, left-part}
-use Rattle.tbox.proofs.Promised.{all-append, names-first, parts-roles, parts-plain}
+use Rattle.syntax.specs.Concepts.{Role, Concept, topC, bottomC, nameC, notC, andC, orC, existsC, forallC, Axiom}
+use Rattle.syntax.specs.Normal.{Tag, Nf, topN, bottomN, nameN, notN, andN, orN, existsN, forallN, plain, negated, axiomNf}
+use Rattle.syntax.specs.Flatten.{Atom, Filler, atomic, fresh, Part, nameP, freshP, existsP, forallP, Flat, partF, notF, orF, atom, Pending, whole, guarded, Walked, alike, Lookup, shared, separate, placed, meetOne, walkBy, walkPendingBy, Flattening, runBy, nameParts, pendings, flattenBy, flatten, noPart, partAt}
+use Rattle.syntax.specs.Bounds.{All, NamesBelow, EachRole, AxiomNames, AxiomRoles}
+use Rattle.syntax.proofs.Alike.{exists-alike, forall-alike, found-at}
+use Rattle.syntax.proofs.Queue.{Left, left-start, left-step, left-end, left-part}
+use Rattle.syntax.proofs.Promised.{all-append, names-first, parts-roles, parts-plain}
 use Rattle.semantics.specs.Flattens.{AtomAt, Fills, Laid, Origin, ofAxiom, ofFiller, Faithful, Flattens}
 
 -- each of two lists

@@ -1,5 +1,5 @@
 -- An interpretation laid out from a stable domino set fits its labels (002, Lemma 1), and the three layers of 02, N11, are laid
--- out from their dominoes. Assumes nothing.
+-- out from their dominoes.
 use Prim.Native.Nat.{ℕ, _+_, _*_, _/_, _%_, _≤_, _<_}
 use native.Mathlib.Omega.{arith}
 use native.Mathlib.Nat.{mod-lt, mul-le-mul-right}
@@ -13,19 +13,18 @@ use lib.Dec.{eqb}
 use Rattle.bitset.specs.Bits.{bit}
 use Rattle.bitset.proofs.Laws.{bit-past}
 use Rattle.elimination.specs.Sets.{every, some}
-use Rattle.tbox.specs.Concepts.{Role, named, inverse as inverseR, notR, andR, orR}
-use Rattle.tbox.specs.Normal.{Tag}
-use Rattle.tbox.specs.Flatten.{Filler, Part, existsP, forallP, Flat, partAt}
-use Rattle.tbox.specs.Truth.{eval, kbOn, roleOn}
-use Rattle.tbox.specs.Bounds.{All, RolesBelow, PartRole}
+use Rattle.syntax.specs.Concepts.{Role, named, inverse as inverseR, notR, andR, orR}
+use Rattle.syntax.specs.Normal.{Tag}
+use Rattle.syntax.specs.Flatten.{Filler, Part, existsP, forallP, Flat, partAt}
+use Rattle.syntax.specs.Truth.{eval, kbOn, roleOn}
+use Rattle.syntax.specs.Bounds.{All, RolesBelow, PartRole}
 use Rattle.semantics.specs.Interpretations.{roleIn}
 use Rattle.semantics.specs.Dominoes.{Dominoes, inverse}
 use Rattle.semantics.specs.Conditions.{Stable}
 use Rattle.semantics.specs.Views.{fillerIn, viewOf}
 use Rattle.semantics.specs.Labelling.{Labelling}
 use Rattle.semantics.specs.Layers.{labelAt, leads, rolesAt, labelled, Enumerates}
-use Rattle.semantics.proofs.Truths.{and-l, and-r, and-i, imp-i, imp-e, all-at, all-intro, any-intro, any-found}
-use Rattle.semantics.proofs.Truths.{not-true, iff-eq, dec, eqb-true, true-eqb}
+use Rattle.semantics.proofs.Truths.{and-l, and-r, and-i, imp-i, imp-e, all-at, all-intro, any-intro, any-found, not-true, iff-eq, dec, eqb-true, true-eqb}
 use Rattle.semantics.proofs.Numbers.{inverse-even, inverse-odd}
 use Rattle.semantics.proofs.Stability.{Witness, stable-kb, stable-ex, stable-uni, stable-delex, stable-deluni, stable-sym}
 

@@ -1,4 +1,4 @@
--- 002, Proposition 1, a fresh name read as its filler, for all that flattens a knowledge base. Assumes nothing.
+-- 002, Proposition 1, a fresh name read as its filler, for all that flattens a knowledge base.
 use Prim.Native.Nat.{ℕ, _≤_, _<_}
 use mathlib.Core.Path.{_≡_, refl, sym, ap, _∙_, fun-ext, subst}
 use mathlib.Core.Bool.{Bool, true, false, not, _&&_, _||_}
@@ -7,11 +7,11 @@ use mathlib.Core.Option.{none}
 use mathlib.Core.List.{List, [], _∷_}
 use lib.ListN.{length, List·getD-eq-default}
 use Rattle.elimination.specs.Sets.{every, some}
-use Rattle.tbox.specs.Concepts.{Role, Axiom}
-use Rattle.tbox.specs.Normal.{Tag, Nf, topN, bottomN, nameN, notN, andN, orN, existsN, forallN, axiomNf}
-use Rattle.tbox.specs.Flatten.{everything, nothing, nameA, Filler, atomic, fresh, Part, nameP, freshP, existsP, forallP, Flat, atom, noPart, partAt}
-use Rattle.tbox.specs.Truth.{eval}
-use Rattle.tbox.specs.Bounds.{All, Plain, FillerPlain, PartPlain}
+use Rattle.syntax.specs.Concepts.{Role, Axiom}
+use Rattle.syntax.specs.Normal.{Tag, Nf, topN, bottomN, nameN, notN, andN, orN, existsN, forallN, axiomNf}
+use Rattle.syntax.specs.Flatten.{everything, nothing, nameA, Filler, atomic, fresh, Part, nameP, freshP, existsP, forallP, Flat, atom, noPart, partAt}
+use Rattle.syntax.specs.Truth.{eval}
+use Rattle.syntax.specs.Bounds.{All, Plain, FillerPlain, PartPlain}
 use Rattle.semantics.specs.Interpretations.{Interpretation, roleIn, holds, satisfies, models, holdsNf}
 use Rattle.semantics.specs.Views.{fillerIn}
 use Rattle.semantics.specs.Projection.{plainAt, readPart, partsIn}

@@ -1,10 +1,10 @@
--- The negation normal form of a concept holds where the concept does (002: "KB and NNF(KB) are equivalent"). Assumes nothing.
+-- The negation normal form of a concept holds where the concept does (002: "KB and NNF(KB) are equivalent").
 use Prim.Native.Nat.{ℕ}
 use mathlib.Core.Path.{_≡_, refl, sym, ap, ap₂, _∙_, fun-ext}
 use mathlib.Core.Bool.{Bool, not, _&&_, _||_}
 use Rattle.elimination.specs.Sets.{every, some}
-use Rattle.tbox.specs.Concepts.{Concept, topC, bottomC, nameC, notC, andC, orC, existsC, forallC, Axiom}
-use Rattle.tbox.specs.Normal.{plain, negated, axiomNf}
+use Rattle.syntax.specs.Concepts.{Concept, topC, bottomC, nameC, notC, andC, orC, existsC, forallC, Axiom}
+use Rattle.syntax.specs.Normal.{plain, negated, axiomNf}
 use Rattle.semantics.specs.Interpretations.{Interpretation, roleIn, holds, holdsNf}
 use Rattle.semantics.proofs.Truths.{not-or, not-and, not-not, not-any, not-all}
 

@@ -1,5 +1,5 @@
 -- The numbers of dominoes: each domino has one below the total, each number below the total is that of one domino; and the
--- inverse of a role set. Assumes nothing.
+-- inverse of a role set.
 use mathlib.Core.Path.{_≡_, sym, ap, subst, _∙_}
 use Prim.Native.Nat.{ℕ, zero, suc, _+_, _*_, _/_, _%_, _^_, _<_}
 use native.Mathlib.Nat.{mod-lt, add-assoc, mul-assoc, add-mul}

@@ -1,4 +1,4 @@
--- The domino projection of an interpretation whose labels fit is stable (002, Lemma 2). Assumes nothing.
+-- The domino projection of an interpretation whose labels fit is stable (002, Lemma 2).
 use mathlib.Core.Path.{_≡_, refl, sym as flip, ap, ap₂, subst, _∙_, fun-ext}
 use mathlib.Core.Bool.{Bool, true, false, not, _&&_, _||_, cond, false≢true}
 use mathlib.Core.List.{List, [], _∷_}
@@ -9,11 +9,11 @@ use lib.Dec.{eqb}
 use lib.ListN.{length}
 use Rattle.bitset.specs.Bits.{bit, word}
 use Rattle.bitset.proofs.Laws.{word-lt, word-ext, word-bits, bit-word, bit-past}
-use Rattle.tbox.specs.Concepts.{Role, named, inverse as inverseR, notR, andR, orR}
-use Rattle.tbox.specs.Flatten.{Part, nameP, freshP, existsP, forallP, Flat, partAt}
-use Rattle.tbox.specs.Truth.{eval, kbOn, roleOn}
-use Rattle.tbox.specs.Promise.{kindOf, roleHolds}
-use Rattle.tbox.specs.Bounds.{All, RolesBelow, PartRole}
+use Rattle.syntax.specs.Concepts.{Role, named, inverse as inverseR, notR, andR, orR}
+use Rattle.syntax.specs.Flatten.{Part, nameP, freshP, existsP, forallP, Flat, partAt}
+use Rattle.syntax.specs.Truth.{eval, kbOn, roleOn}
+use Rattle.syntax.specs.Parts.{kindOf, roleHolds}
+use Rattle.syntax.specs.Bounds.{All, RolesBelow, PartRole}
 use Rattle.semantics.specs.Interpretations.{Interpretation, roleIn}
 use Rattle.semantics.specs.Dominoes.{Dominoes, inverse}
 use Rattle.semantics.specs.Conditions.{View, kb, ex, uni, witness, delex, deluni, sym, defect, initially, sustained, Stable, InRange}

@@ -1,4 +1,4 @@
--- The members of a set in rising order: each of them, all of them, strictly rising; and so the dominoes of a set. Assumes nothing.
+-- The members of a set in rising order: each of them, all of them, strictly rising; and so the dominoes of a set.
 use Prim.Native.Nat.{ℕ, zero, suc, _≤_, _<_}
 use native.Mathlib.Omega.{arith}
 use native.Mathlib.Decide.{decLe, ℕ-discrete}

@@ -1,4 +1,4 @@
--- What a stable domino set says of its dominoes, part by part, and that two parts of one restriction agree (02, N4). Assumes nothing.
+-- What a stable domino set says of its dominoes, part by part, and that two parts of one restriction agree (02, N4).
 use Prim.Native.Nat.{ℕ, suc, _≤_, _<_}
 use native.Mathlib.Omega.{arith}
 use native.Mathlib.Decide.{decLe}
@@ -9,11 +9,11 @@ use mathlib.Core.List.{List}
 use lib.ListN.{length, List·getD-eq-default}
 use lib.Dec.{eqb}
 use Rattle.bitset.specs.Bits.{bit}
-use Rattle.tbox.specs.Concepts.{Role}
-use Rattle.tbox.specs.Normal.{Tag}
-use Rattle.tbox.specs.Flatten.{Filler, Part, nameP, freshP, existsP, forallP, Flat, partAt}
-use Rattle.tbox.specs.Truth.{kbOn, roleOn}
-use Rattle.tbox.specs.Promise.{kindOf, roleHolds}
+use Rattle.syntax.specs.Concepts.{Role}
+use Rattle.syntax.specs.Normal.{Tag}
+use Rattle.syntax.specs.Flatten.{Filler, Part, nameP, freshP, existsP, forallP, Flat, partAt}
+use Rattle.syntax.specs.Truth.{kbOn, roleOn}
+use Rattle.syntax.specs.Parts.{kindOf, roleHolds}
 use Rattle.semantics.specs.Dominoes.{Dominoes, inverse}
 use Rattle.semantics.specs.Conditions.{kb, ex, uni, witness, delex, deluni, sym as converse, initially, sustained, Stable}
 use Rattle.semantics.specs.Views.{fillerIn, hasFiller, viewOf}

@@ -1,4 +1,4 @@
--- Laws of Bool and of the bounded quantifiers, with truth as an equation `b ≡ true`. Assumes nothing.
+-- Laws of Bool and of the bounded quantifiers, with truth as an equation `b ≡ true`.
 use Prim.Native.Nat.{ℕ, zero, suc, _<_}
 use native.Mathlib.Nat.{le-refl}
 use native.Mathlib.Omega.{arith}

@@ -1,6 +1,6 @@
 -- A knowledge base has a canonical domino set that is not empty exactly if it has a finite model (002, Theorem 1), two
 -- flattenings give one verdict (02, N4), and the layered interpretation is a model with exactly the dominoes of the set (02,
--- N11). Assumes nothing.
+-- N11).
 use Prim.Native.Nat.{ℕ, zero, suc, _+_, _*_, _/_, _%_, _^_, _≤_, _<_}
 use native.Mathlib.Omega.{arith}
 use native.Mathlib.Nat.{mod-lt, mod-eq-of-lt, div-eq-of-lt}
@@ -13,12 +13,12 @@ use mathlib.Core.List.{List}
 use lib.ListN.{length, getD}
 use Rattle.bitset.specs.Bits.{bit, word}
 use Rattle.bitset.proofs.Laws.{word-ext, word-bits, bit-past}
-use Rattle.tbox.specs.Concepts.{Axiom}
-use Rattle.tbox.specs.Flatten.{Part, Flat, separate, Flattening, flattenBy, partAt}
-use Rattle.tbox.specs.Truth.{roleOn}
-use Rattle.tbox.specs.Bounds.{AxiomRoles, RolesBelow, PartRole}
-use Rattle.tbox.specs.Reading.{Kb, kb, flatsOf, partsOf, readKb}
-use Rattle.tbox.proofs.Promised.{kb-bounded, kb-restricted}
+use Rattle.syntax.specs.Concepts.{Axiom}
+use Rattle.syntax.specs.Flatten.{Part, Flat, separate, Flattening, flattenBy, partAt}
+use Rattle.syntax.specs.Truth.{roleOn}
+use Rattle.syntax.specs.Bounds.{AxiomRoles, RolesBelow, PartRole}
+use Rattle.syntax.specs.Reading.{Kb, kb, flatsOf, partsOf, readKb}
+use Rattle.syntax.proofs.Promised.{kb-bounded, kb-restricted}
 use Rattle.semantics.specs.Interpretations.{Interpretation, models, Satisfiable}
 use Rattle.semantics.specs.Dominoes.{Dominoes, Met, total, leftOf, rolesOf, rightOf, unnumbered}
 use Rattle.semantics.specs.Conditions.{InRange, LargestStable, canonDominoes}

@@ -1,14 +1,15 @@
--- The six conditions (01, "Pairings and the six conditions"; 002, Definition 5). Assumes nothing: these are definitions.
+-- The six conditions (01, "Pairings and the six conditions"; 002, Definition 5).
 use Prim.Native.Nat.{ℕ, _*_, _^_}
 use mathlib.Core.Path.{_≡_}
 use mathlib.Core.Bool.{Bool, true, false, not, _&&_, _||_, cond}
 use mathlib.Core.List.{List, [], _∷_, _++_}
 use lib.Dec.{eqb, ltb}
-use Rattle.bitset.specs.Bits.{Set, bit}
+use Rattle.bitset.specs.Bits.{Set, bit, wordsFor}
 use Rattle.elimination.specs.Sets.{every, some}
 use Rattle.elimination.specs.Elimination.{defectiveBy, canonical}
-use Rattle.tbox.specs.Bounds.{All}
+use Rattle.syntax.specs.Bounds.{All}
 use Rattle.semantics.specs.Dominoes.{Dominoes, Domino, total, leftOf, rolesOf, rightOf, inverse, numbered}
+use Prim.Native.Nat.{ℕ}
 
 -- what the conditions look at: the number of parts and of roles; of part k its kind (2 existential, 3 universal), whether its
 -- role holds on the role set R, and whether its filler is in the label B; and the labels on which every flattened axiom is true
@@ -136,3 +137,7 @@ module _ (v : View) where
   unfoldable pub canonDominoes : Dominoes
   canonDominoes A R B =
       ltb A (2 ^ v .parts) && (ltb R (2 ^ (2 * v .roles)) && (ltb B (2 ^ v .parts) && numbered (v .parts) (v .roles) canon A R B))
+
+-- "Words needed: 2^(2c+2L) / 64, but at least 1"
+abbrev pub held : View → ℕ
+held v = wordsFor (dominoes v)

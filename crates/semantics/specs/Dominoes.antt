@@ -1,5 +1,4 @@
--- The numbers of dominoes (A, R, B), for c parts and L roles. 01 calls a domino a pairing. Assumes nothing: these are
--- definitions.
+-- The numbers of dominoes (A, R, B), for c parts and L roles. 01 calls a domino a pairing.
 use Prim.Native.Nat.{ℕ, zero, suc, _+_, _*_, _/_, _%_, _^_, _<_}
 use mathlib.Core.Path.{_≡_}
 use mathlib.Core.Bool.{Bool, true}
@@ -35,10 +34,6 @@ rightOf c n = n % 2 ^ c
 unfoldable pub inverse : ℕ → ℕ → ℕ
 inverse zero R = 0
 inverse (suc L) R = R % 4 / 2 + 2 * (R % 2) + 4 * inverse L (R / 4)
-
--- "Words needed: 2^(2c+2L) / 64, but at least 1"
-abbrev pub wordsFor : ℕ → ℕ
-wordsFor N = (N + 63) / 64
 
 -- a set of numbers as a set of dominoes, and the other way round
 unfoldable pub numbered : ℕ → ℕ → Set → Dominoes

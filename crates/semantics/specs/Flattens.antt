@@ -1,15 +1,15 @@
 -- What it is for parts and flattened axioms to flatten a knowledge base (002, section 2.2): the numbering, the order and the
--- sharing of parts are left open. Assumes nothing: these are definitions.
+-- sharing of parts are left open.
 use Prim.Native.Nat.{ℕ, _<_}
 use mathlib.Core.Path.{_≡_}
 use mathlib.Core.Bool.{true}
 use mathlib.Core.Option.{Option, none, some}
 use mathlib.Core.List.{List}
 use lib.ListN.{length}
-use Rattle.tbox.specs.Concepts.{Role, Axiom}
-use Rattle.tbox.specs.Normal.{Tag, Nf, topN, bottomN, nameN, notN, andN, orN, existsN, forallN, axiomNf}
-use Rattle.tbox.specs.Flatten.{Atom, everything, nothing, nameA, Filler, atomic, fresh, Part, nameP, freshP, existsP, forallP, Flat, topF, bottomF, partF, notF, andF, orF, atom, alike, Lookup, partAt}
-use Rattle.tbox.specs.Bounds.{All, AxiomRoles, PartRole, PartPlain}
+use Rattle.syntax.specs.Concepts.{Role, Axiom}
+use Rattle.syntax.specs.Normal.{Tag, Nf, topN, bottomN, nameN, notN, andN, orN, existsN, forallN, axiomNf}
+use Rattle.syntax.specs.Flatten.{Atom, everything, nothing, nameA, Filler, atomic, fresh, Part, nameP, freshP, existsP, forallP, Flat, topF, bottomF, partF, notF, andF, orF, atom, alike, Lookup, partAt}
+use Rattle.syntax.specs.Bounds.{All, AxiomRoles, PartRole, PartPlain}
 
 -- a filler that needs no fresh name: a name stands at its own number
 unfoldable pub AtomAt : (ℕ → Part) → Atom → Type 0

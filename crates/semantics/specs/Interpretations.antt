@@ -1,12 +1,11 @@
--- Finite interpretations, what holds of an individual (002, Table 1), and models of a knowledge base as written. Assumes
--- nothing: these are definitions.
+-- Finite interpretations, what holds of an individual (002, Table 1), and models of a knowledge base as written.
 use Prim.Native.Nat.{ℕ, _<_}
 use mathlib.Core.Path.{_≡_}
 use mathlib.Core.Bool.{Bool, true, false, not, _&&_, _||_}
 use mathlib.Core.List.{List, [], _∷_}
 use Rattle.elimination.specs.Sets.{every, some}
-use Rattle.tbox.specs.Concepts.{Role, named, inverse, notR, andR, orR, Concept, topC, bottomC, nameC, notC, andC, orC, existsC, forallC, Axiom}
-use Rattle.tbox.specs.Normal.{Nf, topN, bottomN, nameN, notN, andN, orN, existsN, forallN}
+use Rattle.syntax.specs.Concepts.{Role, named, inverse, notR, andR, orR, Concept, topC, bottomC, nameC, notC, andC, orC, existsC, forallC, Axiom}
+use Rattle.syntax.specs.Normal.{Nf, topN, bottomN, nameN, notN, andN, orN, existsN, forallN}
 
 -- 01 calls this a plant: "a finite list of items, each with its traits, and for each link the ordered pairs it joins".
 -- `has x t`: individual x has the name t; `joined k x y`: role k joins x to y

@@ -1,14 +1,14 @@
--- Labels on the individuals of an interpretation. Assumes nothing: these are definitions.
+-- Labels on the individuals of an interpretation.
 use Prim.Native.Nat.{ℕ, _<_}
 use mathlib.Core.Path.{_≡_}
 use mathlib.Core.Bool.{Bool, true, not, _&&_, _||_}
 use mathlib.Core.List.{List}
 use Rattle.elimination.specs.Sets.{every, some}
-use Rattle.tbox.specs.Concepts.{Role}
-use Rattle.tbox.specs.Normal.{Tag}
-use Rattle.tbox.specs.Flatten.{Filler, Part, nameP, existsP, forallP, Flat}
-use Rattle.tbox.specs.Truth.{eval}
-use Rattle.tbox.specs.Bounds.{All}
+use Rattle.syntax.specs.Concepts.{Role}
+use Rattle.syntax.specs.Normal.{Tag}
+use Rattle.syntax.specs.Flatten.{Filler, Part, nameP, existsP, forallP, Flat}
+use Rattle.syntax.specs.Truth.{eval}
+use Rattle.syntax.specs.Bounds.{All}
 use Rattle.semantics.specs.Interpretations.{Interpretation, roleIn}
 use Rattle.semantics.specs.Views.{fillerIn}
 

@@ -1,5 +1,4 @@
--- A finite interpretation from m dominoes (a i, r i, b i): three layers of m individuals (02, N11). Assumes nothing: these are
--- definitions.
+-- A finite interpretation from m dominoes (a i, r i, b i): three layers of m individuals (02, N11).
 use Prim.Native.Nat.{ℕ, zero, suc, _+_, _*_, _/_, _%_, _<_}
 use mathlib.Core.Path.{_≡_}
 use mathlib.Core.Bool.{Bool, true, _&&_, cond}

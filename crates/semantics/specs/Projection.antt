@@ -1,12 +1,12 @@
--- The dominoes of an interpretation (002, Definition 3). Assumes nothing: these are definitions.
+-- The dominoes of an interpretation (002, Definition 3).
 use Prim.Native.Nat.{ℕ, _+_, _*_, _/_, _%_}
 use mathlib.Core.Bool.{Bool, false, not, _&&_, _||_, cond}
 use lib.ListN.{length}
 use lib.Dec.{eqb}
 use Rattle.bitset.specs.Bits.{word}
 use Rattle.elimination.specs.Sets.{every, some}
-use Rattle.tbox.specs.Flatten.{Part, nameP, freshP, existsP, forallP, partAt}
-use Rattle.tbox.specs.Reading.{Kb, partsOf}
+use Rattle.syntax.specs.Flatten.{Part, nameP, freshP, existsP, forallP, partAt}
+use Rattle.syntax.specs.Reading.{Kb, partsOf}
 use Rattle.semantics.specs.Interpretations.{Interpretation, roleIn, holdsNf}
 use Rattle.semantics.specs.Dominoes.{Dominoes}
 use Rattle.semantics.specs.Views.{fillerIn}

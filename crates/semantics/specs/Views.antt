@@ -1,13 +1,13 @@
--- What the conditions look at, of a flattened knowledge base. Assumes nothing: these are definitions.
+-- What the conditions look at, of a flattened knowledge base.
 use Prim.Native.Nat.{ℕ}
 use mathlib.Core.Bool.{Bool, true, false}
 use mathlib.Core.List.{List}
 use lib.ListN.{length}
 use Rattle.bitset.specs.Bits.{bit}
-use Rattle.tbox.specs.Flatten.{everything, nothing, nameA, Filler, atomic, fresh, Part, nameP, freshP, existsP, forallP, Flat, separate, Flattening, flattenBy, partAt}
-use Rattle.tbox.specs.Truth.{kbOn}
-use Rattle.tbox.specs.Promise.{kindOf, roleHolds}
-use Rattle.tbox.specs.Reading.{Kb, flatsOf, partsOf}
+use Rattle.syntax.specs.Flatten.{everything, nothing, nameA, Filler, atomic, fresh, Part, nameP, freshP, existsP, forallP, Flat, separate, Flattening, flattenBy, partAt}
+use Rattle.syntax.specs.Truth.{kbOn}
+use Rattle.syntax.specs.Parts.{kindOf, roleHolds}
+use Rattle.syntax.specs.Reading.{Kb, flatsOf, partsOf}
 use Rattle.semantics.specs.Conditions.{View}
 
 -- "everything is in each mark set and nothing in none"

@@ -1,21 +1,13 @@
 -- What each call answers and leaves (01, "The calls, and what each refuses").
-use Prim.Native.Nat.{ℕ, _*_}
-use mathlib.Core.Bool.{cond}
-use mathlib.Core.List.{List, [], _∷_, _++_}
+use Prim.Native.Nat.{ℕ}
+use mathlib.Core.List.{List, [], _∷_}
 use mathlib.Core.Path.{_≡_}
-use lib.ListN.{length, drop}
-use lib.Dec.{ltb}
 use Rattle.tbox.specs.declared.ReadAnswer.{ReadAnswer}
 use Rattle.tbox.specs.declared.ReadAnswer.the-variants.{Refused, Read}
 use Rattle.tbox.specs.declared.ListAnswer.{ListAnswer}
 use Rattle.tbox.specs.declared.ListAnswer.the-variants.{Refused as NotListed, Listed}
-use Rattle.tbox.specs.Normal.{Tag}
-use Rattle.tbox.specs.Flatten.{Part, nameP, freshP, existsP, forallP}
-use Rattle.tbox.specs.Reading.{Reading, refusal, kb, partsOf}
-
--- "c + L is at most 12"
-abbrev pub limit : ℕ
-limit = 12
+use Rattle.syntax.specs.Reading.{Reading}
+use Rattle.syntax.specs.Answers.{listLeaves, listSays}
 
 -- document 01's number and values for each case of an answer: the refusal's number (0 for none), its place, then the values
 unfoldable pub readNumbers : ReadAnswer → List ℕ
@@ -25,36 +17,6 @@ readNumbers (Read t l c) = 0 ∷ 0 ∷ t ∷ l ∷ c ∷ []
 unfoldable pub listNumbers : ListAnswer → List ℕ
 listNumbers (NotListed n p) = n ∷ p ∷ []
 listNumbers (Listed c) = 0 ∷ 0 ∷ c ∷ []
-
--- "read answers T, L and c"
-unfoldable pub readSays : Reading → List ℕ
-readSays (refusal n p) = n ∷ p ∷ []
-readSays (kb k) = 0 ∷ 0 ∷ k .names ∷ k .roles ∷ length (partsOf k) ∷ []
-
-abbrev pub oddNo : Tag → ℕ
-oddNo g = cond (g .odd) 1 0
-
--- "kind (0 trait, 1 fresh, 2 some, 3 only, after normal form), then the trait number or the record number of the filler
--- (fresh) or of the some/only, then 1 if that record is read under an odd number of nots"
-unfoldable pub partBytes : Part → List ℕ
-partBytes (nameP t) = 0 ∷ t ∷ 0 ∷ []
-partBytes (freshP g c) = 1 ∷ g .filler ∷ oddNo g ∷ []
-partBytes (existsP g u f) = 2 ∷ g .source ∷ oddNo g ∷ []
-partBytes (forallP g u f) = 3 ∷ g .source ∷ oddNo g ∷ []
-
-unfoldable pub bytesOf : List Part → List ℕ
-bytesOf [] = []
-bytesOf (p ∷ ps) = partBytes p ++ bytesOf ps
-
--- "refuses as read does, then 12, list shorter than 3c bytes"
-unfoldable pub listSays : Reading → List ℕ → List ℕ
-listSays (refusal n p) l = n ∷ p ∷ []
-listSays (kb k) l = cond (ltb (length l) (3 * length (partsOf k))) (12 ∷ 0 ∷ []) (0 ∷ 0 ∷ length (partsOf k) ∷ [])
-
--- "it writes three bytes for each mark; bytes past 3c are kept"; a refusal writes nothing
-unfoldable pub listLeaves : Reading → List ℕ → List ℕ
-listLeaves (refusal n p) l = l
-listLeaves (kb k) l = cond (ltb (length l) (3 * length (partsOf k))) l (bytesOf (partsOf k) ++ drop (3 * length (partsOf k)) l)
 
 pub record Lists (s : Reading) (before after : List ℕ) (r : ListAnswer) : Type 0 where
   pub answer : listNumbers r ≡ listSays s before

@@ -3,67 +3,20 @@ ghost use mathlib.Core.Path.{_≡_};
 ghost use Prim.Native.Nat.{_+_, _*_, _≤_};
 ghost use mathlib.Core.List.{_++_};
 ghost use lib.ListN.{length, take, drop};
-ghost use Rattle.tbox.specs.Reading.{readKb};
-ghost use Rattle.tbox.specs.Answers.{limit, readNumbers, readSays, Lists};
-ghost use Rattle.tbox.specs.Tables.{foundIn, Admits, slotBytes, slotsOf};
+ghost use Rattle.syntax.specs.Reading.{readKb};
+ghost use Rattle.syntax.specs.Answers.{limit, readSays};
+ghost use Rattle.tbox.specs.Answers.{readNumbers, Lists};
+ghost use Rattle.flattening.specs.PartTable.{slotBytes};
+ghost use Rattle.tbox.specs.ListBytes.{slotsOf};
+use crate::admission::admit;
 
+pub mod admission;
 pub mod base;
-pub mod parts;
 pub mod places;
-pub mod records;
-pub mod sharing;
 pub mod truth;
 
 // Parts and roles together are at most this many: document 01's limit on c + L.
 pub(crate) const LIMIT: usize = 12;
-
-// What reading a sheet found: a fault and its place, or fault 0 and the counts of records, names, roles and parts.
-pub struct Admitted {
-    pub fault: u8,
-    pub place: usize,
-    pub count: usize,
-    pub names: usize,
-    pub roles: usize,
-    pub parts: usize,
-}
-
-fn found(fault: u8, place: usize, p: records::Progress, parts: usize) -> Admitted
-    ensures { λ r. ⌜ r ≡ foundIn fault place p parts ⌝ }
-{
-    Admitted {
-        fault: fault,
-        place: place,
-        count: p.count,
-        names: p.names,
-        roles: p.roles,
-        parts: parts,
-    }
-}
-
-// Reads a sheet into a table of records and a table of parts; parts and roles together are at most the limit.
-pub(crate) fn admit(
-    sheet: &[u8],
-    table: &mut [u32; 255],
-    parts: &mut [u32; 20],
-    limit: usize,
-) -> Admitted
-    requires { ⌜ limit ≤ 20 ⌝ }
-    ensures { λ r. ⌜ Admits limit (now (sheet .entry)) (now (table .exit)) (now (parts .exit)) r ⌝ }
-{
-    let s = records::scan(sheet, table);
-    let p = s.progress;
-    if s.fault != 0 {
-        return found(s.fault, s.place, p, 0);
-    }
-    let c = parts::flatten(table, p.count, p.names, parts, limit);
-    if limit < c {
-        return found(9, 0, p, c);
-    }
-    if limit - c < p.roles {
-        return found(9, 0, p, c);
-    }
-    found(0, 0, p, c)
-}
 
 pub enum ReadAnswer {
     // A refusal's number and place.
@@ -136,7 +89,8 @@ fn write_slots(parts: &[u32], c: usize, list: &mut [u8])
 // The same off the table of parts, which has room for 20.
 fn write_parts(parts: &[u32; 20], c: usize, list: &mut [u8])
     requires { ⌜ (c ≤ 20) × (3 * c ≤ length (now list)) ⌝ }
-    ensures { λ _. ⌜ (length (now (parts .entry)) ≡ 20) × (now (list .exit) ≡ slotsOf (take c (now (parts .entry))) ++ drop (3 * c) (now (list .entry))) ⌝ }
+    ensures { λ _. ⌜ length (now (parts .entry)) ≡ 20 ⌝ }
+    ensures { λ _. ⌜ now (list .exit) ≡ slotsOf (take c (now (parts .entry))) ++ drop (3 * c) (now (list .entry)) ⌝ }
 {
     write_slots(parts, c, list);
 }

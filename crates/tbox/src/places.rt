@@ -1,17 +1,19 @@
 // Where each restriction stands among the parts.
 ghost use mathlib.Core.Path.{_≡_};
-ghost use Prim.Native.Nat.{_+_, _<_, _≤_};
-ghost use mathlib.Core.List.{List};
+ghost use Prim.Native.Nat.{_<_, _≤_};
 ghost use lib.ListN.{length, set};
-ghost use Rattle.tbox.specs.Flatten.{Part, atom};
-ghost use Rattle.tbox.specs.Tables.{seen, nfBelow, kindUnder, AtomIs, Stood, PlaceAt, Noted, Places};
-use crate::parts::negated_atom;
-use crate::parts::plain_atom;
-use crate::records::record_at;
-use crate::sharing::first_alike;
+ghost use Rattle.syntax.specs.Flatten.{atom};
+ghost use Rattle.records.specs.RecordTable.{seen};
+ghost use Rattle.flattening.specs.PartTable.{nfBelow, AtomIs};
+ghost use Rattle.tbox.specs.RestrictionPlaces.{kindUnder, PlaceAt, NotesOne, PlacesOf};
+use flattening::FRESH;
+use flattening::parts::negated_atom;
+use flattening::parts::plain_atom;
+use flattening::sharing::first_alike;
+use records::record_at;
 
 // The normal form of record r, of those below a number, under a not if odd, as a filler.
-fn atom_under(table: &[u32; 255], count: usize, r: u8, below: usize, odd: bool) -> usize
+fn atom_under(table: &[u32; 255], count: usize, r: u8, below: usize, odd: bool) -> u16
     requires { ⌜ count ≤ 255 ⌝ }
     ensures { λ f. ⌜ AtomIs (atom (nfBelow odd (seen (now (table .entry)) count) below r)) f ⌝ }
 {
@@ -31,8 +33,8 @@ fn kind_under(kind: u8, odd: bool) -> u8
     if kind == 0x07 { 2 } else { 3 }
 }
 
-// The part of record r if that is a restriction; 255 if its filler needs a fresh name.
-fn place_of(table: &[u32; 255], count: usize, parts: &[u32; 20], c: usize, r: u8, odd: bool) -> u8
+// The part of record r if that is a restriction; FRESH if its filler needs a fresh name.
+fn place_of(table: &[u32; 255], count: usize, parts: &[u32; 20], c: usize, r: u8, odd: bool) -> u16
     requires { ⌜ (count ≤ 255) × (c ≤ 20) ⌝ }
     ensures { λ v. ⌜ PlaceAt (seen (now (table .entry)) count) (now (parts .entry)) c r odd v ⌝ }
 {
@@ -41,18 +43,18 @@ fn place_of(table: &[u32; 255], count: usize, parts: &[u32; 20], c: usize, r: u8
     match k {
         0x07..=0x08 => {
             let f = atom_under(table, count, e.second, r as usize, odd);
-            if f == 258 {
-                return 255;
+            if f == FRESH {
+                return FRESH;
             }
             let kind = kind_under(k, odd);
-            first_alike(table, count, parts, c, kind, e.first, r as usize, f) as u8
+            first_alike(table, count, parts, c, kind, e.first, r as usize, f) as u16
         }
         _ => 0,
     }
 }
 
-// Sets one byte.
-fn put_place(place: &mut [u8], n: usize, v: u8)
+// Sets one place.
+fn put_place(place: &mut [u16], n: usize, v: u16)
     requires { ⌜ n < length (now place) ⌝ }
     ensures { λ _. ⌜ now (place .exit) ≡ set (now (place .entry)) n v ⌝ }
 {
@@ -60,9 +62,16 @@ fn put_place(place: &mut [u8], n: usize, v: u8)
 }
 
 // Notes the part of record r, read plainly and under a not, if that is a restriction.
-fn note(table: &[u32; 255], count: usize, parts: &[u32; 20], c: usize, r: u8, place: &mut [u8; 512])
+fn note(
+    table: &[u32; 255],
+    count: usize,
+    parts: &[u32; 20],
+    c: usize,
+    r: u8,
+    place: &mut [u16; 512],
+)
     requires { ⌜ (count ≤ 255) × (c ≤ 20) ⌝ }
-    ensures { λ _. ⌜ (Noted (seen (now (table .entry)) count) (now (parts .entry)) c (now (place .entry)) r → Noted (seen (now (table .entry)) count) (now (parts .entry)) c (now (place .exit)) (r + 1)) ⌝ }
+    ensures { λ _. ⌜ NotesOne (seen (now (table .entry)) count) (now (parts .entry)) c r (now (place .entry)) (now (place .exit)) ⌝ }
 {
     let k = record_at(table, count, r).kind;
     if k < 0x07 {
@@ -82,10 +91,10 @@ pub(crate) fn places(
     count: usize,
     parts: &[u32; 20],
     c: usize,
-    place: &mut [u8; 512],
+    place: &mut [u16; 512],
 )
     requires { ⌜ (count ≤ 255) × (c ≤ 20) ⌝ }
-    ensures { λ _. ⌜ ((ps : List Part) → length ps ≡ c → Stood (seen (now (table .entry)) count) (now (parts .entry)) ps → Places (seen (now (table .entry)) count) (now (place .exit)) ps) ⌝ }
+    ensures { λ _. ⌜ PlacesOf (seen (now (table .entry)) count) (now (parts .entry)) c (now (place .exit)) ⌝ }
 {
     let mut r: u8 = 0;
     while (r as usize) < count {

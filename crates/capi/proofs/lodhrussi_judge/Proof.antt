@@ -1,4 +1,4 @@
--- What judge says is returned and written; the words are as it leaves them. Assumes nothing.
+-- What judge says is returned and written; the words are as it leaves them.
 use mathlib.Core.Path.{ap, _∙_}
 use borrow.Author.Needs.{needs}
 use Rattle.domino.specs.Answers.{judgeNumbers}

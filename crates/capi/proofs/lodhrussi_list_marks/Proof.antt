@@ -1,4 +1,4 @@
--- What list marks says is returned and written; the list is as it leaves it. Assumes nothing.
+-- What list marks says is returned and written; the list is as it leaves it.
 use mathlib.Core.Path.{ap}
 use borrow.Author.Needs.{needs}
 use Rattle.tbox.specs.Answers.{listNumbers}

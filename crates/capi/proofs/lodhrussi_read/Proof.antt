@@ -1,4 +1,4 @@
--- What read says is returned and written. Assumes nothing.
+-- What read says is returned and written.
 use mathlib.Core.Path.{ap}
 use borrow.Author.Needs.{needs}
 use Rattle.tbox.specs.Answers.{readNumbers}

@@ -1,4 +1,4 @@
--- A verdict's number is written, and the condition when struck. Assumes nothing.
+-- A verdict's number is written, and the condition when struck.
 use mathlib.Core.Path.{sym}
 use borrow.Author.Needs.{needs}
 use Rattle.domino.specs.Answers.{verdictNumbers}

@@ -1,4 +1,4 @@
--- The invariant: what was read lies within the buffer, whose length stays. Assumes nothing.
+-- The invariant: what was read lies within the buffer, whose length stays.
 use borrow.Rule.Slice.PartMut.{same-len-mid, mid-len}
 use Rattle.io.proofs.Counting.{counts}
 use Rattle.console.proofs.Counts.{got}

@@ -1,14 +1,14 @@
 use borrow.Author.Needs.{needs}
 use borrow.Author.Tests.{not-true, not-false}
-use Rattle.domino.specs.Tables.{view}
-use Rattle.domino.proofs.Leaving.{strike-absent, strike-kept, strike-took}
+use Rattle.domino_conditions.specs.Tables.{view}
+use Rattle.domino.proofs.Striking.{strike-absent, strike-kept, strike-took}
 use Rattle.domino.proofs.strike_set.Statement.{statement}
 use Rattle.domino.proofs.strike_set.Tie as tie
 use Rattle.domino.proofs.strike_set.Reads as reads
 use Rattle.domino.proofs.strike_set.Lts as lts
 use Rattle.bitset.proofs.clear.Reads as clear-reads
 use Rattle.bitset.proofs.member.Reads as member-reads
-use Rattle.domino.proofs.conditions.defect.Reads as defect-reads
+use Rattle.domino_conditions.proofs.conditions.defect.Reads as defect-reads
 
 member-requires : tie.Need-member-requires
 member-requires c κs = search needs

@@ -1,4 +1,4 @@
--- What report::evening says, for 4,096 words. Assumes nothing.
+-- What report::evening says, for 4,096 words.
 use Rattle.report.specs.Lines.{printed}
 use borrow.Author.Needs.{needs}
 use Rattle.evening.proofs.lines.Statement.{statement}

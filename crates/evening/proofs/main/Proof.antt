@@ -1,4 +1,4 @@
--- What was read lies within the buffer. Assumes nothing.
+-- What was read lies within the buffer.
 use Rattle.console.proofs.Counts.{got}
 use borrow.Author.Needs.{needs}
 use Rattle.evening.proofs.main.Statement.{statement}

@@ -1,4 +1,4 @@
--- The lines lie within the buffer. Assumes nothing.
+-- The lines lie within the buffer.
 use native.Mathlib.Omega.{arith}
 use Rattle.io.proofs.Counting.{front}
 use Rattle.report.proofs.Putting.{puts-length}

@@ -16,6 +16,9 @@ loop-holds c = omega arith
 element-copy-out-part : tie.Need-element-copy-out-part Inv-loop μ-loop
 element-copy-out-part c = omega arith
 
+mul-part : tie.Need-mul-part Inv-loop μ-loop
+mul-part c = omega arith
+
 element-copy-out-part-2 : tie.Need-element-copy-out-part-2 Inv-loop μ-loop
 element-copy-out-part-2 c = omega arith
 
@@ -42,6 +45,7 @@ parts-spec =
     μ-loop
     loop-holds
     element-copy-out-part
+    mul-part
     element-copy-out-part-2
     part-requires
     add-i

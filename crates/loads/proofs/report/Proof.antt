@@ -52,7 +52,7 @@ text-requires-4 : tie.Need-text-requires-4
 text-requires-4 c κs = search needs
 
 parts-requires : tie.Need-parts-requires
-parts-requires c κs = omega (arith, (c .before .before .before .before .before .before .before .before .before .before .before .before .before .before .before .before .load .ensures .read (c .before .before .before .before .before .before .before .before .before .before .before .before .before .before .if1 .left)) .2 .small)
+parts-requires c κs = omega (arith, (c .before .before .before .before .before .before .before .before .before .before .before .before .before .before .before .before .before .load .ensures .read (c .before .before .before .before .before .before .before .before .before .before .before .before .before .before .before .if1 .left)) .2 .small)
 
 words-for-requires : tie.Need-words-for-requires
 words-for-requires c κs = search needs

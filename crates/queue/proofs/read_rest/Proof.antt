@@ -1,4 +1,4 @@
--- What is read behind the kind lies within what is wanted, and the kind stays. Assumes nothing.
+-- What is read behind the kind lies within what is wanted, and the kind stays.
 use Prim.Native.Nat.{_-_}
 use mathlib.Core.Path.{_≡_}
 use lib.ListN.{length}

@@ -1,4 +1,4 @@
--- Nothing, or the kind and what is read behind it. Assumes nothing.
+-- Nothing, or the kind and what is read behind it.
 use native.Mathlib.Omega.{arith}
 use mathlib.Core.Path.{sym}
 use lib.Seq.{length-take-le}

@@ -1,4 +1,4 @@
--- The invariant: the totals are those of slots that came. Each turn counts one more, of 4,096. Assumes nothing.
+-- The invariant: the totals are those of slots that came. Each turn counts one more, of 4,096.
 use Rattle.queue.proofs.Stepping.{turned, going-on}
 use Prim.Native.Nat.{_-_}
 use mathlib.Core.Path.{_≡_, refl, sym, subst}

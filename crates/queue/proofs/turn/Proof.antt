@@ -1,4 +1,4 @@
--- A step on what was read, or a read that failed. Assumes nothing.
+-- A step on what was read, or a read that failed.
 use mathlib.Core.Path.{refl, sym, ap, _∙_}
 use mathlib.Core.Bool.{Bool, _&&_}
 use mathlib.Core.Logic.{inl, inr}

@@ -1,4 +1,4 @@
--- Read's refusal, or the lines of what judge answers. Assumes nothing.
+-- Read's refusal, or the lines of what judge answers.
 use Rattle.report.proofs.Reporting.{reports-refused, reports-judged}
 use borrow.Author.Needs.{needs}
 use Rattle.report.proofs.evening.Statement.{statement}

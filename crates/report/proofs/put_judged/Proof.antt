@@ -1,4 +1,4 @@
--- A refusal's line, or the three lines one after another. Assumes nothing.
+-- A refusal's line, or the three lines one after another.
 use Rattle.report.proofs.Putting.{puts-then}
 use Rattle.report.proofs.Reporting.{puts-refused, puts-judged}
 use borrow.Author.Needs.{needs}

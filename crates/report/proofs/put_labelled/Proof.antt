@@ -1,4 +1,4 @@
--- A text, then a number. Assumes nothing.
+-- A text, then a number.
 use Rattle.report.proofs.Putting.{puts-then}
 use borrow.Author.Needs.{needs}
 use Rattle.report.proofs.put_labelled.Statement.{statement}

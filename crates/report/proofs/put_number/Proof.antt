@@ -1,8 +1,7 @@
--- The kit's digits of the number, put as a text. Assumes nothing.
+-- The kit's digits of the number, put as a text.
 use Rattle.report.proofs.Decimals.{digits-decimal, few-digits}
 use mathlib.Core.Path.{_∙_}
 use native.Mathlib.Omega.{arith}
-use Rattle.report.proofs.Decimals.{digits-decimal}
 use borrow.Author.Needs.{needs}
 use Rattle.report.proofs.put_number.Statement.{statement}
 use Rattle.report.proofs.put_number.Tie as tie

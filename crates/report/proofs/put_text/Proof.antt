@@ -1,4 +1,4 @@
--- The invariant: the bytes before i are copied, the others kept. Assumes nothing.
+-- The invariant: the bytes before i are copied, the others kept.
 use Prim.Native.Nat.{_-_, _≤_}
 use mathlib.Core.Path.{_≡_, ap, _∙_}
 use native.Mathlib.Numerals.{add-one}

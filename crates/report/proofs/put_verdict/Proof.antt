@@ -1,4 +1,4 @@
--- The line of either verdict. Assumes nothing.
+-- The line of either verdict.
 use Rattle.report.specs.Text.{text}
 use Rattle.report.specs.Lines.{verdictLine}
 use borrow.Author.Needs.{needs}

@@ -1,7 +1,7 @@
 -- A sheet that is refused, a list that is too short, or the bytes of all parts.
 use native.Mathlib.Omega.{arith}
 use borrow.Author.Needs.{needs}
-use Rattle.tbox.proofs.Admitting.{list-refused, list-short, list-whole}
+use Rattle.tbox.proofs.SheetsRead.{list-refused, list-short, list-whole}
 use Rattle.tbox.proofs.list_marks.Statement.{statement}
 use Rattle.tbox.proofs.list_marks.Tie as tie
 

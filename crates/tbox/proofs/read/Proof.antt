@@ -1,6 +1,6 @@
 -- A sheet that is refused, or its counts.
 use borrow.Author.Needs.{needs}
-use Rattle.tbox.proofs.Admitting.{read-refused, read-whole}
+use Rattle.tbox.proofs.SheetsRead.{read-refused, read-whole}
 use Rattle.tbox.proofs.read.Statement.{statement}
 use Rattle.tbox.proofs.read.Tie as tie
 

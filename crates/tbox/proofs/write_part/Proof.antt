@@ -1,7 +1,7 @@
 -- The three bytes, one after the other.
 use borrow.Author.Needs.{needs}
-use Rattle.tbox.specs.Tables.{slotBytes}
-use Rattle.tbox.proofs.Slots.{three}
+use Rattle.flattening.specs.PartTable.{slotBytes}
+use Rattle.tbox.proofs.PartBytes.{three}
 use Rattle.tbox.proofs.write_part.Statement.{statement}
 use Rattle.tbox.proofs.write_part.Tie as tie
 

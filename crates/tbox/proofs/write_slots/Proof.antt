@@ -4,8 +4,8 @@ use mathlib.Core.Path.{_≡_, refl, ap, _∙_}
 use mathlib.Core.List.{_++_}
 use lib.ListN.{take, drop, length-take, length-drop}
 use native.Mathlib.Omega.{arith}
-use Rattle.tbox.specs.Tables.{slotsOf}
-use Rattle.tbox.proofs.Slots.{written-more, written-length}
+use Rattle.tbox.specs.ListBytes.{slotsOf}
+use Rattle.tbox.proofs.PartBytes.{written-more, written-length}
 use Rattle.tbox.proofs.write_slots.Statement.{statement}
 use Rattle.tbox.proofs.write_slots.Tie as tie
 

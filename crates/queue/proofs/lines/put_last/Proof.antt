@@ -1,4 +1,4 @@
--- The totals, or refusal 15. Assumes nothing.
+-- The totals, or refusal 15.
 use Rattle.report.specs.Text.{text}
 use Rattle.queue.specs.Lines.{lastLine}
 use borrow.Author.Needs.{needs}

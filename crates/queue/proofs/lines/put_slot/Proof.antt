@@ -1,4 +1,4 @@
--- The slot's number, then its word and value, by the answer's case. Assumes nothing.
+-- The slot's number, then its word and value, by the answer's case.
 use Rattle.report.specs.Text.{text}
 use Rattle.report.proofs.Putting.{puts-then}
 use Rattle.queue.proofs.Writing.{puts-met, puts-unmet, puts-refused}

@@ -1,4 +1,4 @@
--- The five totals, one after another. Assumes nothing.
+-- The five totals, one after another.
 use Rattle.report.specs.Text.{text}
 use Rattle.report.proofs.Putting.{puts-then}
 use Rattle.queue.specs.Lines.{totalsLine}

@@ -1,4 +1,4 @@
--- A word and a number, then the end of the line. Assumes nothing.
+-- A word and a number, then the end of the line.
 use Rattle.report.specs.Text.{text}
 use Rattle.report.proofs.Putting.{puts-then}
 use borrow.Author.Needs.{needs}

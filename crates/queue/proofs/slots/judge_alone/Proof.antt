@@ -1,4 +1,4 @@
--- What judge answers, by its cases. Assumes nothing.
+-- What judge answers, by its cases.
 use Rattle.queue.proofs.Cases.{alone-refused, alone-met, alone-unmet}
 use borrow.Author.Needs.{needs}
 use Rattle.queue.proofs.slots.judge_alone.Statement.{statement}

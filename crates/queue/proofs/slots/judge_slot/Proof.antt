@@ -1,4 +1,4 @@
--- Refusal 14, or what judging its sheet says. Assumes nothing.
+-- Refusal 14, or what judging its sheet says.
 use Prim.Native.Nat.{_+_, _-_}
 use mathlib.Core.Path.{_≡_}
 use native.Mathlib.Omega.{arith}

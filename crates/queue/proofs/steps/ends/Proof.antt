@@ -1,4 +1,4 @@
--- The kind at the front, if there is any byte. Assumes nothing.
+-- The kind at the front, if there is any byte.
 use mathlib.Core.Path.{sym}
 use Rattle.queue.specs.Queue.{endFirst}
 use Rattle.queue.proofs.Fitting.{ends-none}

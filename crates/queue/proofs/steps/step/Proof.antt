@@ -1,4 +1,4 @@
--- The line of a slot with the totals after it, or the last line. Assumes nothing.
+-- The line of a slot with the totals after it, or the last line.
 use mathlib.Core.Path.{sym, _∙_}
 use Rattle.queue.specs.Queue.{slotOf}
 use Rattle.queue.proofs.Adding.{reached-small}

@@ -1,4 +1,4 @@
--- Slots so far, then the length, then the kind. Assumes nothing.
+-- Slots so far, then the length, then the kind.
 use mathlib.Core.Path.{sym}
 use Rattle.queue.proofs.Fitting.{takes-late, takes-short, takes-whole}
 use native.Mathlib.Omega.{arith}

@@ -1,4 +1,4 @@
--- A slot that may come, or a kind alone. Assumes nothing.
+-- A slot that may come, or a kind alone.
 use borrow.Author.Tests.{eq-eqb, ne-eqb, lt-ltb, le-ltb}
 use Rattle.queue.specs.Steps.{wanted}
 use Rattle.queue.proofs.steps.wanted.Statement.{statement}

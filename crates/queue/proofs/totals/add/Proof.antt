@@ -1,4 +1,4 @@
--- Each case of the answer adds to its own total; none wraps. Assumes nothing.
+-- Each case of the answer adds to its own total; none wraps.
 use native.Mathlib.Omega.{arith}
 use Rattle.queue.proofs.Cases.{added-met, added-unmet, added-refused, survivors-met, survivors-unmet}
 use borrow.Author.Needs.{needs}

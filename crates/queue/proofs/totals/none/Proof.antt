@@ -1,4 +1,4 @@
--- Nothing is counted yet. Assumes nothing.
+-- Nothing is counted yet.
 use Rattle.queue.specs.Queue.{sum, totalsOf}
 use mathlib.Core.Path.{refl}
 use Rattle.queue.proofs.totals.none.Statement.{statement}

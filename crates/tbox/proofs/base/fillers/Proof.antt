@@ -5,11 +5,11 @@ use mathlib.Core.Path.{_≡_}
 use mathlib.Core.List.{List}
 use lib.ListN.{getD}
 use native.Mathlib.Omega.{arith}
-use Rattle.tbox.specs.declared.records.Entry.{Entry}
-use Rattle.tbox.specs.Flatten.{Part}
-use Rattle.tbox.specs.Promise.{fillerOf}
-use Rattle.tbox.specs.Tables.{Stands}
-use Rattle.tbox.proofs.Holding.{Filled, filled-none, filled-more}
+use Rattle.records.specs.declared.Entry.{Entry}
+use Rattle.syntax.specs.Flatten.{Part}
+use Rattle.syntax.specs.Parts.{fillerOf}
+use Rattle.flattening.specs.PartTable.{Stands}
+use Rattle.flattening.proofs.PartTables.{Filled, filled-none, filled-more}
 use Rattle.tbox.proofs.base.fillers.Statement.{statement}
 use Rattle.tbox.proofs.base.fillers.Tie as tie
 
@@ -30,6 +30,9 @@ element-copy-out-filler-at c = omega arith
 
 filler-at-requires : tie.Need-filler-at-requires Inv-loop μ-loop
 filler-at-requires c κs = omega arith
+
+mul-filler : tie.Need-mul-filler Inv-loop μ-loop
+mul-filler c = omega arith
 
 array-write-filler : tie.Need-array-write-filler Inv-loop μ-loop
 array-write-filler c = omega arith
@@ -56,6 +59,7 @@ fillers-spec =
     mul-filler-at
     element-copy-out-filler-at
     filler-at-requires
+    mul-filler
     array-write-filler
     add-i
     loop-less

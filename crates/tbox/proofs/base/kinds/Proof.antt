@@ -4,7 +4,7 @@ use mathlib.Core.Path.{_≡_, refl}
 use lib.ListN.{getD}
 use native.Mathlib.Omega.{arith}
 use borrow.Author.Needs.{needs}
-use Rattle.tbox.proofs.Holding.{Filled, filled-none, filled-more}
+use Rattle.flattening.proofs.PartTables.{Filled, filled-none, filled-more}
 use Rattle.tbox.proofs.base.kinds.Statement.{statement}
 use Rattle.tbox.proofs.base.kinds.Tie as tie
 

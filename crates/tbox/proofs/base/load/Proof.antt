@@ -1,8 +1,8 @@
 -- A sheet that is refused, or what its tables say of each part.
 use native.Mathlib.Omega.{arith}
 use borrow.Author.Needs.{needs}
-use Rattle.tbox.proofs.Admitting.{count-is, stood}
-use Rattle.tbox.proofs.Basing.{loads-refused, loads-whole}
+use Rattle.tbox.proofs.SheetsRead.{count-is, stood}
+use Rattle.tbox.proofs.BaseTables.{loads-refused, loads-whole}
 use Rattle.tbox.proofs.base.load.Statement.{statement}
 use Rattle.tbox.proofs.base.load.Tie as tie
 
@@ -30,8 +30,11 @@ role-words-requires c κs =
 good-words-requires : tie.Need-good-words-requires
 good-words-requires c κs =
     let admit = c .before .before .before .before .before .before .before .before .before .before .before .admit in
-    let if1 = c .before .before .before .before .before .before .before .before .before .if1 in
-    (admit .ensures .records, omega (arith, admit .ensures .small (if1 .left)), count-is _ _ _ _ _ (admit .ensures) (if1 .left), stood _ _ _ _ _ (admit .ensures) (if1 .left))
+    let if1 = c .before .before .before .before .before .before .before .before .before .if1 in (
+      admit .ensures .records,
+      omega (arith, admit .ensures .small (if1 .left)),
+      record { count = count-is _ _ _ _ _ (admit .ensures) (if1 .left); stand = stood _ _ _ _ _ (admit .ensures) (if1 .left) },
+    )
 
 returns-2 : tie.Need-returns-2
 returns-2 c =

@@ -1,7 +1,7 @@
 -- A name has no role; a restriction's is that of its record.
 use mathlib.Core.Path.{_∙_}
 use borrow.Author.Needs.{needs}
-use Rattle.tbox.proofs.Basing.{name-role, role-holds}
+use Rattle.tbox.proofs.BaseTables.{name-role, role-holds}
 use Rattle.tbox.proofs.base.role_at.Statement.{statement}
 use Rattle.tbox.proofs.base.role_at.Tie as tie
 

@@ -5,11 +5,12 @@ use lib.ListN.{getD}
 use native.Mathlib.Omega.{arith}
 use borrow.Author.Needs.{needs}
 use Rattle.bitset.specs.Bits.{wordAt}
-use Rattle.tbox.specs.Flatten.{Part}
-use Rattle.tbox.specs.Promise.{roleHolds}
-use Rattle.tbox.specs.Tables.{seen, Stands}
-use Rattle.tbox.proofs.Holding.{Filled, filled-none, filled-more}
-use Rattle.tbox.proofs.Basing.{role-index}
+use Rattle.syntax.specs.Flatten.{Part}
+use Rattle.syntax.specs.Parts.{roleHolds}
+use Rattle.records.specs.RecordTable.{seen}
+use Rattle.flattening.specs.PartTable.{Stands}
+use Rattle.flattening.proofs.PartTables.{Filled, filled-none, filled-more}
+use Rattle.tbox.proofs.BaseTables.{role-index}
 use Rattle.tbox.proofs.base.role_words.Statement.{statement}
 use Rattle.tbox.proofs.base.role_words.Tie as tie
 

@@ -1,6 +1,6 @@
 -- A restriction has its two places written; another record leaves the table as it is.
 use native.Mathlib.Omega.{arith}
-use Rattle.tbox.proofs.Finding.{noted-other, noted-more}
+use Rattle.tbox.proofs.PlacesFound.{noted-other, noted-more}
 use borrow.Author.Needs.{needs}
 use Rattle.tbox.proofs.places.note.Statement.{statement}
 use Rattle.tbox.proofs.places.note.Tie as tie

@@ -1,7 +1,7 @@
 -- A restriction with a fresh filler, one among the parts, or another record.
 use mathlib.Core.Path.{refl}
 use native.Mathlib.Omega.{arith}
-use Rattle.tbox.proofs.Finding.{under-low, place-fresh, place-found, place-other}
+use Rattle.tbox.proofs.PlacesFound.{under-low, place-fresh, place-found, place-other}
 use borrow.Author.Needs.{needs}
 use Rattle.tbox.proofs.places.place_of.Statement.{statement}
 use Rattle.tbox.proofs.places.place_of.Tie as tie

@@ -3,9 +3,10 @@ use Prim.Native.Nat.{_-_, _≤_}
 use mathlib.Core.Path.{_≡_}
 use native.Mathlib.Omega.{arith}
 use borrow.Author.Needs.{needs}
-use Rattle.tbox.specs.Tables.{seen, Noted}
-use Rattle.tbox.proofs.Entries.{seen-most}
-use Rattle.tbox.proofs.Finding.{noted-none, places-all}
+use Rattle.records.specs.RecordTable.{seen}
+use Rattle.tbox.specs.RestrictionPlaces.{Noted}
+use Rattle.records.proofs.Entries.{seen-most}
+use Rattle.tbox.proofs.PlacesFound.{noted-none, places-all}
 use Rattle.tbox.proofs.places.places.Statement.{statement}
 use Rattle.tbox.proofs.places.places.Tie as tie
 

@@ -1,0 +1,4 @@
+pub mod Dropping
+pub mod MaskWords
+pub mod Masks
+pub mod Opened

@@ -1,0 +1,4 @@
+pub mod Converses
+pub mod Passed
+pub mod Settled
+pub mod Sweeps

@@ -1,0 +1,3 @@
+// Settling and judging domino sets in lent words.
+pub mod judging;
+pub mod settling;

@@ -1,0 +1,4 @@
+pub mod Adding
+pub mod AlikeParts
+pub mod Order
+pub mod PartTable

@@ -1,0 +1,4 @@
+pub mod Entries
+pub mod Faults
+pub mod KindTable
+pub mod Scanning

@@ -1,0 +1,431 @@
+-- What the layers above may use of a sheet that is read, and of a refusal.
+use Prim.Native.Nat.{ℕ, zero, suc, _+_, _-_, _≤_, _<_}
+use native.Mathlib.Omega.{arith}
+use native.Mathlib.Decide.{ℕ-discrete}
+use mathlib.Core.Path.{_≡_, refl, ap, _∙_}
+use mathlib.Core.Logic.{_⊎_, inl, inr, ⊎-elim, _↔_}
+use mathlib.Core.Bool.{Bool, true, false, cond, not, _&&_, _||_}
+use mathlib.Core.Option.{Option, none, some}
+use mathlib.Core.List.{List, [], _∷_, _++_, append-assoc, append-nil}
+use lib.ListN.{length, length-append, List·getD-append}
+use lib.Seq.{getD-at}
+use lib.Dec.{eqb, leb, ltb}
+use borrow.Author.Tests.{eqb-true, eqb-false, eq-eqb, leb-true, le-leb, ltb-true}
+use Rattle.records.specs.declared.Shape.{Shape}
+use Rattle.records.specs.declared.Entry.{Entry}
+use Rattle.records.specs.Shapes.{isRestriction}
+use Rattle.records.specs.Scan.{State, start, recordAt, orElse, numberFault, sortFault, againFault, referenceFault, name, emptyFault, bodyFault, bodyByte, shapeAt, recordFault, recordAfter, Scanning, refused, whole, scan, scanSheet}
+use Rattle.syntax.specs.Concepts.{Role, Concept, topC, bottomC, nameC, notC, andC, orC, existsC, forallC, Axiom}
+use Rattle.syntax.specs.Normal.{Tag, Nf, topN, bottomN, nameN, notN, andN, orN, existsN, forallN, plain, negated, axiomNf}
+use Rattle.syntax.specs.Flatten.{Atom, everything, nothing, nameA, Filler, atomic, fresh, Part, nameP, freshP, existsP, forallP, atom, Pending, whole as wholeP, guarded, Walked, Lookup, shared, placed, meetOne, walkBy, walkPendingBy, runBy, weights, nameParts, pendings, flattenBy, noPart, partAt}
+use Rattle.syntax.specs.Truth.{roleOn}
+use Rattle.syntax.specs.Reading.{Kb, refusal, kb, kbOf, partsOf, admit, reading, readKb, isRecordFault, isReadRefusal}
+use Rattle.syntax.specs.Bounds.{All, RolesBelow, NamesBelow, EachRole, AxiomNames, AxiomRoles, AxiomsBelow, PartRole, PartFiller, FillerLow, PartLow, FillerPlain, PartPlain}
+use Rattle.syntax.proofs.Formed.{read-few}
+use Rattle.syntax.proofs.Bounded.{read-bounded, axioms-restricted}
+use Rattle.syntax.proofs.Queue.{names-length, left-start, left-grows, left-part}
+
+-- The names are the first parts.
+names-at : (T t : ℕ) → t < T → partAt (nameParts T) t ≡ nameP t
+unfolding nameParts
+names-at zero t h = absurd (omega arith)
+names-at (suc T) t h = pick (names-at T t) (ℕ-discrete t T)
+  where
+    pick : (t < T → partAt (nameParts T) t ≡ nameP t) → Dec (t ≡ T) → partAt (nameParts T ++ (nameP T ∷ [])) t ≡ nameP t
+    pick ih (yes q) = rw q (getD-at (nameParts T) (nameP T) [] noPart T (names-length T))
+    pick ih (no q) = List·getD-append (nameParts T) (nameP T ∷ []) noPart t (omega (arith, names-length T)) ∙ ih (omega arith)
+
+pub names-within : (find : Lookup) (T : ℕ) (s : List Axiom) → T ≤ length (flattenBy find T s .parts)
+names-within find T s = omega (arith, left-grows (left-start find T s), names-length T)
+
+pub names-first : (find : Lookup) (T : ℕ) (s : List Axiom) (i : ℕ) → i < T → partAt (flattenBy find T s .parts) i ≡ nameP i
+names-first find T s i h = left-part (left-start find T s) i (omega (arith, names-length T)) ∙ names-at T i h
+
+-- what holds of each of a list
+pub all-append : {A : Type 0} (P : A → Type 0) (l l′ : List A) → All P l → All P l′ → All P (l ++ l′)
+all-append P [] l′ h h′ = h′
+all-append P (a ∷ l) l′ h h′ = (h .0, all-append P l l′ (h .1) h′)
+
+all-more : {A : Type 0} (P Q : A → Type 0) → ((a : A) → P a → Q a) → (l : List A) → All P l → All Q l
+all-more P Q f [] h = tt
+all-more P Q f (a ∷ l) h = (f a (h .0), all-more P Q f l (h .1))
+
+all-at : (P : Part → Type 0) → P noPart → (l : List Part) → All P l → (i : ℕ) → P (partAt l i)
+all-at P d [] h i = d
+all-at P d (a ∷ l) h zero = h .0
+all-at P d (a ∷ l) h (suc i) = all-at P d l (h .1) i
+
+-- a filler that is everything, nothing, or a name or a fresh part among these
+abbrev Fine : List Part → Filler → Type 0
+Fine so f = FillerLow (length so) f × FillerPlain (partAt so) f
+
+fine-more : (so more : List Part) (f : Filler) → Fine so f → Fine (so ++ more) f
+fine-more so more (atomic everything) h = (tt, tt)
+fine-more so more (atomic nothing) h = (tt, tt)
+fine-more so more (atomic (nameA t)) h = (omega (arith, length-append so more), rw (List·getD-append so more noPart t (h .0)) (h .1))
+fine-more so more (fresh j) h = (omega (arith, length-append so more), rw (List·getD-append so more noPart j (h .0)) (h .1))
+
+-- the fresh part behind a restriction
+next-at : (so : List Part) (p q : Part) → partAt (so ++ (p ∷ q ∷ [])) (suc (length so)) ≡ q
+next-at [] p q = refl
+next-at (a ∷ so) p q = next-at so p q
+
+next-fine : (so : List Part) (p : Part) (g : Tag) (c : Nf) → Fine (so ++ (p ∷ freshP g c ∷ [])) (fresh (suc (length so)))
+next-fine so p g c = (omega (arith, length-append so (p ∷ freshP g c ∷ [])), rw (next-at so p (freshP g c)) tt)
+
+filler-more : (P R : Filler → Type 0) → ((f : Filler) → P f → R f) → (p : Part) → PartFiller P p → PartFiller R p
+filler-more P R i (nameP t) h = h
+filler-more P R i (freshP g c) h = h
+filler-more P R i (existsP g u f) h = i f h
+filler-more P R i (forallP g u f) h = i f h
+
+-- Names below T and Q of the role of each restriction: this goes from the axioms to their normal forms and to the parts,
+-- whichever lookup.
+module _ (find : Lookup) (T : ℕ) (Q : Role → Type 0) where
+  abbrev Fits : Nf → Type 0
+  Fits topN = Unit
+  Fits bottomN = Unit
+  Fits (nameN t) = t < T
+  Fits (notN t) = t < T
+  Fits (andN c d) = Fits c × Fits d
+  Fits (orN c d) = Fits c × Fits d
+  Fits (existsN g u c) = Q u × Fits c
+  Fits (forallN g u c) = Q u × Fits c
+
+  mutual
+    unfolding NamesBelow EachRole plain negated
+
+    plain-fits : (c : Concept) → NamesBelow T c → EachRole Q c → Fits (plain c)
+    plain-fits topC h q = tt
+    plain-fits bottomC h q = tt
+    plain-fits (nameC t) h q = h
+    plain-fits (notC c) h q = negated-fits c h q
+    plain-fits (andC c d) h q = (plain-fits c (h .0) (q .0), plain-fits d (h .1) (q .1))
+    plain-fits (orC c d) h q = (plain-fits c (h .0) (q .0), plain-fits d (h .1) (q .1))
+    plain-fits (existsC r f u c) h q = (q .0, plain-fits c h (q .1))
+    plain-fits (forallC r f u c) h q = (q .0, plain-fits c h (q .1))
+
+    negated-fits : (c : Concept) → NamesBelow T c → EachRole Q c → Fits (negated c)
+    negated-fits topC h q = tt
+    negated-fits bottomC h q = tt
+    negated-fits (nameC t) h q = h
+    negated-fits (notC c) h q = plain-fits c h q
+    negated-fits (andC c d) h q = (negated-fits c (h .0) (q .0), negated-fits d (h .1) (q .1))
+    negated-fits (orC c d) h q = (negated-fits c (h .0) (q .0), negated-fits d (h .1) (q .1))
+    negated-fits (existsC r f u c) h q = (q .0, negated-fits c h (q .1))
+    negated-fits (forallC r f u c) h q = (q .0, negated-fits c h (q .1))
+
+  abbrev Waits : Pending → Type 0
+  Waits (wholeP c) = Fits c
+  Waits (guarded f c) = Fits c
+
+  pendings-wait : (s : List Axiom) → AxiomNames T s → AxiomRoles Q s → All Waits (pendings s)
+  unfolding pendings axiomNf
+  pendings-wait [] h q = tt
+  pendings-wait (a ∷ s) h q = ((negated-fits (a .left) (h .0) (q .0), plain-fits (a .right) (h .1) (q .1)), pendings-wait s (h .2) (q .2))
+
+  -- a part among these
+  abbrev Ok : List Part → Part → Type 0
+  Ok so p = PartRole Q p × PartFiller (Fine so) p
+
+  ok-more : (so more : List Part) (p : Part) → Ok so p → Ok (so ++ more) p
+  ok-more so more p h = (h .0, filler-more (Fine so) (Fine (so ++ more)) (fine-more so more) p (h .1))
+
+  -- the parts so far: the names first, and each as it should be
+  record Sound (so : List Part) : Type 0 where
+    long : T ≤ length so
+    first : (t : ℕ) → t < T → partAt so t ≡ nameP t
+    each : All (Ok so) so
+
+  sound-more : (so more : List Part) → Sound so → All (Ok (so ++ more)) more → Sound (so ++ more)
+  sound-more so more s h =
+      record {
+        long = omega (arith, length-append so more, s .long);
+        first = λ t l. List·getD-append so more noPart t (omega (arith, s .long)) ∙ s .first t l;
+        each = all-append (Ok (so ++ more)) so more (all-more (Ok so) (Ok (so ++ more)) (ok-more so more) so (s .each)) h;
+      }
+
+  names-ok : (so : List Part) (n : ℕ) → All (Ok so) (nameParts n)
+  unfolding nameParts
+  names-ok so zero = tt
+  names-ok so (suc n) = all-append (Ok so) (nameParts n) (nameP n ∷ []) (names-ok so n) ((tt, tt), tt)
+
+  names-sound : Sound (nameParts T)
+  names-sound = record { long = omega (arith, names-length T); first = names-at T; each = names-ok (nameParts T) T }
+
+  abbrev Found : List Part → Option Atom → Type 0
+  Found so (some a) = Fine so (atomic a)
+  Found so none = Unit
+
+  atom-found : (so : List Part) (c : Nf) → Sound so → Fits c → Found so (atom c)
+  unfolding atom
+  atom-found so topN s h = (tt, tt)
+  atom-found so bottomN s h = (tt, tt)
+  atom-found so (nameN t) s h = (omega (arith, s .long), rw (s .first t h) tt)
+  atom-found so (notN t) s h = tt
+  atom-found so (andN c d) s h = tt
+  atom-found so (orN c d) s h = tt
+  atom-found so (existsN g u c) s h = tt
+  atom-found so (forallN g u c) s h = tt
+
+  -- what going through one of the queue keeps
+  abbrev Keeps : List Part → Walked → Type 0
+  Keeps so w = Sound (so ++ w .parts) × All Waits (w .later)
+
+  keeps-none : (so : List Part) → Sound so → Sound (so ++ [])
+  keeps-none so s = rw append-nil s
+
+  keeps-both : (so : List Part) (a b : Walked) → Keeps so a → Keeps (so ++ a .parts) b → Sound (so ++ (a .parts ++ b .parts)) × All Waits (a .later ++ b .later)
+  keeps-both so a b h k = (rw (← append-assoc so (a .parts) (b .parts)) (k .0), all-append Waits (a .later) (b .later) (h .1) (k .1))
+
+  placed-keeps : (p : Part) (so : List Part) (o : Option ℕ) → ((more : List Part) → Ok (so ++ more) p) → Sound so → Keeps so (placed p so o)
+  unfolding placed
+  placed-keeps p so (some j) ok s = (keeps-none so s, tt)
+  placed-keeps p so none ok s = (sound-more so (p ∷ []) s (ok (p ∷ []), tt), tt)
+
+  meet-keeps : (p : Filler → Part) (g : Tag) (c : Nf) (so : List Part) (o : Option Atom) → ((l : List Part) (f : Filler) → Fine l f → Ok l (p f)) →
+      Fits c → Sound so → Found so o → Keeps so (meetOne find p g c so o)
+  unfolding meetOne
+  meet-keeps p g c so (some a) ok h s f =
+      placed-keeps (p (atomic a)) so (find (p (atomic a)) so) (λ more. ok (so ++ more) (atomic a) (fine-more so more (atomic a) f)) s
+  meet-keeps p g c so none ok h s f =
+      let next : Part = p (fresh (suc (length so))) in
+      (sound-more so (next ∷ freshP g c ∷ []) s (ok (so ++ (next ∷ freshP g c ∷ [])) (fresh (suc (length so))) (next-fine so next g c), ((tt, tt), tt)), (h, tt))
+
+  walk-keeps : (c : Nf) (so : List Part) → Fits c → Sound so → Keeps so (walkBy find c so)
+  unfolding walkBy
+  walk-keeps topN so h s = (keeps-none so s, tt)
+  walk-keeps bottomN so h s = (keeps-none so s, tt)
+  walk-keeps (nameN t) so h s = (keeps-none so s, tt)
+  walk-keeps (notN t) so h s = (keeps-none so s, tt)
+  walk-keeps (andN c d) so h s =
+      let a = walk-keeps c so (h .0) s in
+      keeps-both so (walkBy find c so) (walkBy find d (so ++ walkBy find c so .parts)) a (walk-keeps d (so ++ walkBy find c so .parts) (h .1) (a .0))
+  walk-keeps (orN c d) so h s =
+      let a = walk-keeps c so (h .0) s in
+      keeps-both so (walkBy find c so) (walkBy find d (so ++ walkBy find c so .parts)) a (walk-keeps d (so ++ walkBy find c so .parts) (h .1) (a .0))
+  walk-keeps (existsN g u c) so h s = meet-keeps (existsP g u) g c so (atom c) (λ l f k. (h .0, k)) (h .1) s (atom-found so c s (h .1))
+  walk-keeps (forallN g u c) so h s = meet-keeps (forallP g u) g c so (atom c) (λ l f k. (h .0, k)) (h .1) s (atom-found so c s (h .1))
+
+  pending-keeps : (p : Pending) (so : List Part) → Waits p → Sound so → Keeps so (walkPendingBy find p so)
+  unfolding walkPendingBy
+  pending-keeps (wholeP c) so h s = walk-keeps c so h s
+  pending-keeps (guarded f c) so h s = walk-keeps c so h s
+
+  run-keeps : (f : ℕ) (q : List Pending) (so : List Part) → All Waits q → Sound so → Sound (so ++ runBy find f q so .parts)
+  unfolding runBy
+  run-keeps zero q so h s = keeps-none so s
+  run-keeps (suc f) [] so h s = keeps-none so s
+  run-keeps (suc f) (p ∷ q) so h s =
+      let w : Walked = walkPendingBy find p so in
+      let k = pending-keeps p so (h .0) s in
+      rw (← append-assoc so (w .parts) (runBy find f (q ++ w .later) (so ++ w .parts) .parts))
+      (run-keeps f (q ++ w .later) (so ++ w .parts) (all-append Waits q (w .later) (h .1) (k .1)) (k .0))
+
+  module _ (s : List Axiom) (low : AxiomNames T s) (roles : AxiomRoles Q s) where
+    parts-sound : Sound (flattenBy find T s .parts)
+    unfolding flattenBy
+    parts-sound = run-keeps (weights (pendings s)) (pendings s) (nameParts T) (pendings-wait s low roles) names-sound
+
+    parts-ok : (i : ℕ) → Ok (flattenBy find T s .parts) (partAt (flattenBy find T s .parts) i)
+    parts-ok = all-at (Ok (flattenBy find T s .parts)) (tt, tt) (flattenBy find T s .parts) (parts-sound .each)
+
+    -- Q holds of the role of each restriction part
+    pub parts-roles : (i : ℕ) → PartRole Q (partAt (flattenBy find T s .parts) i)
+    parts-roles i = parts-ok i .0
+
+    -- the filler of each is everything, nothing, or a name or a fresh part that is there
+    pub parts-low : (i : ℕ) → PartLow (length (flattenBy find T s .parts)) (partAt (flattenBy find T s .parts) i)
+    parts-low i = filler-more (Fine (flattenBy find T s .parts)) (FillerLow (length (flattenBy find T s .parts))) (λ f h. h .0) (partAt (flattenBy find T s .parts) i) (parts-ok i .1)
+
+    pub parts-plain : (i : ℕ) → PartPlain (partAt (flattenBy find T s .parts)) (partAt (flattenBy find T s .parts) i)
+    parts-plain i = filler-more (Fine (flattenBy find T s .parts)) (FillerPlain (partAt (flattenBy find T s .parts))) (λ f h. h .1) (partAt (flattenBy find T s .parts) i) (parts-ok i .1)
+
+-- The state of a sheet that is read.
+kb-whole : (limit : ℕ) (sheet : List ℕ) (k : Kb) → readKb limit sheet ≡ kb k →
+    (st : State) × (scanSheet sheet ≡ whole st) × (k ≡ kbOf st) × (length (partsOf k) + k .roles ≤ limit)
+unfolding readKb reading admit
+kb-whole limit sheet k e = go (scanSheet sheet) refl e
+  where
+    admitted : (st : State) (b : Bool) → leb (length (partsOf (kbOf st)) + st .roles) limit ≡ b → cond b (kb (kbOf st)) (refusal 9 0) ≡ kb k →
+        (k ≡ kbOf st) × (length (partsOf k) + k .roles ≤ limit)
+    admitted st true q p = let i : k ≡ kbOf st = cc in (i, rw i (leb-true (length (partsOf (kbOf st)) + st .roles) limit q))
+    admitted st false q p = let z : _≡_ {A = ℕ} 0 1 = cc in absurd (omega arith)
+
+    go : (s : Scanning) → scanSheet sheet ≡ s → reading limit s ≡ kb k →
+        (st : State) × (scanSheet sheet ≡ whole st) × (k ≡ kbOf st) × (length (partsOf k) + k .roles ≤ limit)
+    go (refused n p) q h = let z : _≡_ {A = ℕ} 0 1 = cc in absurd (omega arith)
+    go (whole st) q h = let w = admitted st (leb (length (partsOf (kbOf st)) + st .roles) limit) refl h in (st, q, w .0, w .1)
+
+module _ (limit : ℕ) (sheet : List ℕ) {k : Kb} (e : readKb limit sheet ≡ kb k) where
+  pub kb-state : (st : State) × (scanSheet sheet ≡ whole st) × (k ≡ kbOf st)
+  kb-state = let w = kb-whole limit sheet k e in (w .0, w .1, w .2)
+
+  pub kb-small : length (partsOf k) + k .roles ≤ limit
+  kb-small = kb-whole limit sheet k e .3
+
+  pub kb-few : (k .names ≤ 12) × (k .roles ≤ 4)
+  kb-few = let w = kb-state in rw (w .2) (read-few sheet (w .0) (w .1))
+
+  pub kb-bounded : AxiomsBelow (k .names) (k .roles) (k .axioms)
+  kb-bounded = let w = kb-state in rw (w .2) (read-bounded sheet (w .0) (w .1))
+
+  -- every role of a restriction fails on the empty role set
+  pub kb-restricted : AxiomRoles (λ u. roleOn u 0 ≡ false) (k .axioms)
+  kb-restricted = let w = kb-state in rw (w .2) (axioms-restricted sheet (w .0) (w .1))
+
+  -- the filler of a restriction part is everything, nothing, or a name or a fresh part that is there
+  pub kb-fillers : (i : ℕ) → PartLow (length (partsOf k)) (partAt (partsOf k) i)
+  kb-fillers = parts-low shared (k .names) (RolesBelow (k .roles)) (k .axioms) (kb-bounded .names) (kb-bounded .roles)
+
+  pub kb-plain : (i : ℕ) → PartPlain (partAt (partsOf k)) (partAt (partsOf k) i)
+  kb-plain = parts-plain shared (k .names) (RolesBelow (k .roles)) (k .axioms) (kb-bounded .names) (kb-bounded .roles)
+
+  -- its role is over roles below the count, and fails on the empty role set
+  pub kb-part-roles : (i : ℕ) → PartRole (RolesBelow (k .roles)) (partAt (partsOf k) i)
+  kb-part-roles = parts-roles shared (k .names) (RolesBelow (k .roles)) (k .axioms) (kb-bounded .names) (kb-bounded .roles)
+
+  pub kb-part-restricted : (i : ℕ) → PartRole (λ u. roleOn u 0 ≡ false) (partAt (partsOf k) i)
+  kb-part-restricted = parts-roles shared (k .names) (λ u. roleOn u 0 ≡ false) (k .axioms) (kb-bounded .names) kb-restricted
+
+-- ---- refusals
+
+apart : {b : Bool} → b ≡ true → b ≡ false → ⊥
+apart p q = let z : _≡_ {A = ℕ} 0 1 = cc in omega arith
+
+-- the numbers are those of an interval
+pub record-faults : (n : ℕ) → (isRecordFault n ≡ true) ↔ ((1 ≤ n) × (n ≤ 8))
+unfolding isRecordFault
+record-faults n = (λ e. split (leb 1 n) (leb n 8) refl refl e, λ h. rw (le-leb 1 n (h .0), le-leb n 8 (h .1)))
+  where
+    split : (a b : Bool) → leb 1 n ≡ a → leb n 8 ≡ b → (a && b) ≡ true → (1 ≤ n) × (n ≤ 8)
+    split true true p q e = (leb-true 1 n p, leb-true n 8 q)
+    split true false p q e = absurd (apart e refl)
+    split false b p q e = absurd (apart e refl)
+
+-- one number more
+pub one-more : (b : Bool) (n m : ℕ) → ((b || eqb n m) ≡ true) ↔ ((b ≡ true) ⊎ (n ≡ m))
+one-more true n m = (λ e. inl refl, λ h. refl)
+one-more false n m = (λ e. inr (eqb-true n m e), ⊎-elim (λ e. absurd (apart e refl)) (eq-eqb n m))
+
+pub one-wider : (P : ℕ → Bool) (last n : ℕ) → ((P n ≡ true) ↔ ((1 ≤ n) × (n ≤ last))) → ((P n || eqb n (suc last)) ≡ true) ↔ ((1 ≤ n) × (n ≤ suc last))
+one-wider P last n f = (
+  λ e. ⊎-elim (λ g. let r = f .0 g in (r .0, omega (arith, r .1))) (λ g. (omega arith, omega arith)) (one-more (P n) n (suc last) .0 e),
+  λ h. one-more (P n) n (suc last) .1 (pick (ℕ-discrete n (suc last)) h),
+)
+  where
+    pick : Dec (n ≡ suc last) → (1 ≤ n) × (n ≤ suc last) → (P n ≡ true) ⊎ (n ≡ suc last)
+    pick (yes q) h = inr q
+    pick (no q) h = inl (f .1 (h .0, omega (arith, h .1)))
+
+pub read-refusals : (n : ℕ) → (isReadRefusal n ≡ true) ↔ ((1 ≤ n) × (n ≤ 9))
+unfolding isReadRefusal
+read-refusals n = one-wider isRecordFault 8 n (record-faults n)
+
+-- no fault, or a fault of a record
+abbrev OrNone : ℕ → Type 0
+OrNone f = (f ≡ 0 → ⊥) → isRecordFault f ≡ true
+
+either-fault : {x y : ℕ} (b : Bool) → OrNone x → OrNone y → OrNone (cond b x y)
+either-fault true h k = h
+either-fault false h k = k
+
+no-fault : OrNone 0
+no-fault f = absurd (f refl)
+
+number-fault : (s : Shape) (a : ℕ) → OrNone (numberFault s a)
+unfolding numberFault isRecordFault
+number-fault s a = either-fault (eqb (s .limit) 0) no-fault (either-fault (leb (s .limit) a) (λ f. refl) no-fault)
+
+-- the first fault of two
+else-fault : (f g : ℕ) → OrNone f → OrNone g → OrNone (orElse f g)
+else-fault f g h k = either-fault (eqb f 0) k h
+
+sort-fault : (wanted found : ℕ) → OrNone (sortFault wanted found)
+unfolding isRecordFault
+sort-fault wanted found = either-fault (eqb found wanted) no-fault (λ f. refl)
+
+again-fault : (e : Entry) → OrNone (againFault e)
+unfolding isRecordFault
+again-fault e = either-fault (e .named && not (e .leaf)) (λ f. refl) no-fault
+
+reference-fault : (es : List Entry) (wanted r : ℕ) → OrNone (referenceFault es wanted r)
+unfolding referenceFault isRecordFault
+reference-fault es wanted r =
+    either-fault (eqb wanted 0) no-fault
+    (either-fault (leb (length es) r) (λ f. refl)
+    (else-fault (sortFault wanted (recordAt es r .sort)) (againFault (recordAt es r)) (sort-fault wanted (recordAt es r .sort)) (again-fault (recordAt es r))))
+
+empty-fault : (es : List Entry) (s : Shape) (a : ℕ) → OrNone (emptyFault es s a)
+unfolding emptyFault isRecordFault
+empty-fault es s a = either-fault (isRestriction s && recordAt es a .vacuous) (λ f. refl) no-fault
+
+body-fault : (es : List Entry) (s : Shape) (a b : ℕ) → OrNone (bodyFault es s a b)
+unfolding bodyFault
+body-fault es s a b =
+    else-fault _ _ (number-fault s a)
+    (else-fault _ _ (reference-fault es (s .first) a)
+    (else-fault _ _ (reference-fault (name es (s .first) a) (s .second) b)
+    (empty-fault es s a)))
+
+record-fault : (sheet : List ℕ) (st : State) → OrNone (recordFault sheet st)
+unfolding recordFault isRecordFault
+record-fault sheet st =
+    let s : Shape = shapeAt sheet (st .at) in
+    either-fault (eqb (s .sort) 0) (λ f. refl)
+    (either-fault (ltb (length sheet - (st .at + 1)) (s .body)) (λ f. refl)
+    (body-fault (st .records) s (bodyByte sheet (st .at) s 1) (bodyByte sheet (st .at) s 2)))
+
+-- a fault, at a place in the sheet
+abbrev Fault : List ℕ → ℕ → ℕ → Type 0
+Fault sheet n p = (isRecordFault n ≡ true) × (p < length sheet)
+
+scan-fault : (room : ℕ) (sheet : List ℕ) (st : State) (n p : ℕ) → scan room sheet st ≡ refused n p → Fault sheet n p
+unfolding scan isRecordFault
+scan-fault zero sheet st n p e = go (ltb (st .at) (length sheet)) refl e
+  where
+    go : (b : Bool) → ltb (st .at) (length sheet) ≡ b → cond b (refused 3 (st .at)) (whole st) ≡ refused n p → Fault sheet n p
+    go true q h =
+        let i : n ≡ 3 = cc in
+        let j : p ≡ st .at = cc in
+        (ap isRecordFault i, omega (arith, ltb-true (st .at) (length sheet) q))
+    go false q h = let z : _≡_ {A = ℕ} 0 1 = cc in absurd (omega arith)
+scan-fault (suc room) sheet st n p e =
+    go (ltb (st .at) (length sheet)) refl (eqb (recordFault sheet st) 0) refl (scan-fault room sheet (recordAfter sheet st) n p) e
+  where
+    go : (b : Bool) → ltb (st .at) (length sheet) ≡ b → (c : Bool) → eqb (recordFault sheet st) 0 ≡ c →
+        (scan room sheet (recordAfter sheet st) ≡ refused n p → Fault sheet n p) →
+        cond b (cond c (scan room sheet (recordAfter sheet st)) (refused (recordFault sheet st) (st .at))) (whole st) ≡ refused n p → Fault sheet n p
+    go true q true r f h = f h
+    go true q false r f h =
+        let i : n ≡ recordFault sheet st = cc in
+        let j : p ≡ st .at = cc in
+        (ap isRecordFault i ∙ record-fault sheet st (eqb-false (recordFault sheet st) 0 r), omega (arith, ltb-true (st .at) (length sheet) q))
+    go false q c r f h = let z : _≡_ {A = ℕ} 0 1 = cc in absurd (omega arith)
+
+module _ (limit : ℕ) (sheet : List ℕ) {n p : ℕ} (e : readKb limit sheet ≡ refusal n p) where
+  -- a refusal is a fault of a record, or 9
+  pub refusal-cases : ((isRecordFault n ≡ true) × (p < length sheet)) ⊎ ((n ≡ 9) × (p ≡ 0))
+  unfolding readKb reading admit scanSheet
+  refusal-cases = go (scanSheet sheet) refl e
+    where
+      nine : (b : Bool) (k : Kb) → cond b (kb k) (refusal 9 0) ≡ refusal n p → (n ≡ 9) × (p ≡ 0)
+      nine true k h = let z : _≡_ {A = ℕ} 0 1 = cc in absurd (omega arith)
+      nine false k h = (cc, cc)
+
+      go : (s : Scanning) → scanSheet sheet ≡ s → reading limit s ≡ refusal n p → Fault sheet n p ⊎ ((n ≡ 9) × (p ≡ 0))
+      go (refused m r) q h =
+          let i : refused m r ≡ refused n p = cc in
+          inl (scan-fault 255 sheet start n p (q ∙ i))
+      go (whole st) q h = inr (nine (leb (length (partsOf (kbOf st)) + st .roles) limit) (kbOf st) h)
+
+  pub refusal-number : isReadRefusal n ≡ true
+  unfolding isReadRefusal
+  refusal-number = one-more (isRecordFault n) n 9 .1 (⊎-elim (λ f. inl (f .0)) (λ f. inr (f .0)) refusal-cases)
+
+  pub refusal-place : isRecordFault n ≡ true → p < length sheet
+  unfolding isRecordFault
+  refusal-place h = ⊎-elim (λ f. f .1) (λ f. absurd (apart h (ap isRecordFault (f .0)))) refusal-cases
+
+  pub refusal-nowhere : isRecordFault n ≡ false → p ≡ 0
+  refusal-nowhere h = ⊎-elim (λ f. absurd (apart (f .0) h)) (λ f. f .1) refusal-cases

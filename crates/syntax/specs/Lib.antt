@@ -1,0 +1,9 @@
+pub mod Concepts
+pub mod Normal
+pub mod Flatten
+pub mod Truth
+pub mod Reading
+pub mod Answers
+pub mod Parts
+pub mod Bounds
+pub mod Examples
