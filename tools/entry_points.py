@@ -21,8 +21,6 @@ WITHOUT_ENSURES = {
     "console::complain": "it answers nothing and leaves nothing: what the system takes is not in the kit's contract of write",
 }
 LONGEST = 144
-# Crates that have longer clauses still. To be emptied.
-STILL_LONG = {"domino_initial", "domino_settling", "capi"}
 
 # What is no code: strings and characters, and comments.
 QUIET = re.compile(r"""b?"(?:\\.|[^"\\])*"|b'(?:\\.|[^'\\])+'|//[^\n]*""")
@@ -70,12 +68,12 @@ def long_clauses(source):
     return [(line, length) for line, length in lengths if length > LONGEST]
 
 
-def faults(crates, product, layer, without_ensures, still_long):
+def faults(crates, product, layer, without_ensures):
     """What is wrong with crates, each given as its source texts by file name."""
     bad = [f"{name} is on two lists" for name in sorted(product & layer)]
-    listed = product | layer | still_long | {name.split("::")[0] for name in without_ensures}
+    listed = product | layer | {name.split("::")[0] for name in without_ensures}
     bad += [f"{name} is on a list and is no crate" for name in sorted(listed - set(crates))]
-    excused, long = set(), set()
+    excused = set()
     for crate, files in crates.items():
         found = [(file, *function) for file, source in files.items() for function in functions(source)]
         other = "a program" if "main.rt" in files else "theory" if not found else None
@@ -93,11 +91,8 @@ def faults(crates, product, layer, without_ensures, still_long):
                     bad.append(f"{at} is public and has no ensures")
         for file, source in files.items():
             for line, length in long_clauses(source):
-                long.add(crate)
-                if crate not in still_long:
-                    bad.append(f"{crate}/src/{file}:{line}: a clause of {length} characters")
+                bad.append(f"{crate}/src/{file}:{line}: a clause of {length} characters")
     bad += [f"{name} needs no excuse" for name in sorted(set(without_ensures) - excused)]
-    bad += [f"{crate} has no long clause any more" for crate in sorted(still_long & set(crates) - long)]
     return bad
 
 
@@ -140,18 +135,15 @@ def sees():
     for crate, file, text, count in TEXTS:
         product, layer = {"p"} & {crate}, {"q"} & {crate}
         excuse = {"q::excused": "why"} if "excused" in text else {}
-        found = faults({crate: {file: text}}, product, layer, excuse, set())
+        found = faults({crate: {file: text}}, product, layer, excuse)
         if len(found) != count:
             raise SystemExit(f"entry_points: {found} found in {text!r}")
     good = {"p": {"lib.rt": TEXTS[0][2]}}
-    long = {"p": {"lib.rt": LONGER}}
     for crates, lists, count in [
-        (good, ({"p"}, set(), {}, set()), 0),
-        (good, ({"p"}, {"p"}, {}, set()), 1),
-        (good, ({"p"}, {"y"}, {}, set()), 1),
-        (good, ({"p"}, set(), {"p::f": "why"}, set()), 1),
-        (good, ({"p"}, set(), {}, {"p"}), 1),
-        (long, ({"p"}, set(), {}, {"p"}), 0),
+        (good, ({"p"}, set(), {}), 0),
+        (good, ({"p"}, {"p"}, {}), 1),
+        (good, ({"p"}, {"y"}, {}), 1),
+        (good, ({"p"}, set(), {"p::f": "why"}), 1),
     ]:
         if len(found := faults(crates, *lists)) != count:
             raise SystemExit(f"entry_points: {found} found with {lists}")
@@ -165,15 +157,14 @@ def main():
         folder = ROOT / "crates" / name / "src"
         crates[name] = {str(file.relative_to(folder)): file.read_text() for file in sorted(folder.glob("**/*.rt"))}
     empty = [f"{name} has no source" for name, files in crates.items() if not files]
-    bad = empty + faults(crates, PRODUCT, LAYER, WITHOUT_ENSURES, STILL_LONG)
+    bad = empty + faults(crates, PRODUCT, LAYER, WITHOUT_ENSURES)
     if bad:
         raise SystemExit("\n".join(["entry_points: found", *bad]))
     public = {name: sum(f[2] for text in files.values() for f in functions(text)) for name, files in crates.items()}
     by_crate = ", ".join(f"{name} {public[name]}" for name in crates if name in PRODUCT)
     print(f"entry_points: no requires on public functions ({by_crate})")
     print(f"entry_points: an ensures on all {sum(public.values())} public functions but {', '.join(WITHOUT_ENSURES)}")
-    if STILL_LONG:
-        print(f"entry_points: clauses of more than {LONGEST} characters are still in {', '.join(sorted(STILL_LONG))}")
+    print(f"entry_points: no clause of more than {LONGEST} characters")
 
 
 if __name__ == "__main__":

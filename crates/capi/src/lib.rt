@@ -2,10 +2,9 @@
 // refusal writes its place, a call that is done its values.
 ghost use mathlib.Core.Path.{_≡_};
 ghost use lib.ListN.{getD};
-ghost use Rattle.syntax.specs.Reading.{readKb};
-ghost use Rattle.syntax.specs.Answers.{limit, readSays, listSays, listLeaves};
-ghost use Rattle.domino.specs.Answers.{openSays, strikeSays, settleSays, judgeSays, verdictNumbers, openLeaves, strikeLeaves, settleLeaves, judgeLeaves};
+ghost use Rattle.domino.specs.Answers.{verdictNumbers};
 ghost use Rattle.capi.specs.Out.{resultOut, placeOut, valueOut};
+ghost use Rattle.capi.specs.Out.{readSaid, listSaid, listLeft, openSaid, openLeft, strikeSaid, strikeLeft, settleSaid, settleLeft, judgeSaid, judgeLeft};
 use domino::JudgeAnswer;
 use domino::OpenAnswer;
 use domino::SettleAnswer;
@@ -23,11 +22,11 @@ pub extern "C" fn lodhrussi_read(
     links: &mut u64,
     marks: &mut u64,
 ) -> u64
-    ensures { λ r. ⌜ r ≡ resultOut (readSays (readKb limit (now (sheet .entry)))) ⌝ }
-    ensures { λ _. ⌜ now (place .exit) ≡ placeOut (readSays (readKb limit (now (sheet .entry)))) (now (place .entry)) ⌝ }
-    ensures { λ _. ⌜ now (traits .exit) ≡ valueOut 0 (readSays (readKb limit (now (sheet .entry)))) (now (traits .entry)) ⌝ }
-    ensures { λ _. ⌜ now (links .exit) ≡ valueOut 1 (readSays (readKb limit (now (sheet .entry)))) (now (links .entry)) ⌝ }
-    ensures { λ _. ⌜ now (marks .exit) ≡ valueOut 2 (readSays (readKb limit (now (sheet .entry)))) (now (marks .entry)) ⌝ }
+    ensures { λ r. ⌜ r ≡ resultOut (readSaid (now (sheet .entry))) ⌝ }
+    ensures { λ _. ⌜ now (place .exit) ≡ placeOut (readSaid (now (sheet .entry))) (now (place .entry)) ⌝ }
+    ensures { λ _. ⌜ now (traits .exit) ≡ valueOut 0 (readSaid (now (sheet .entry))) (now (traits .entry)) ⌝ }
+    ensures { λ _. ⌜ now (links .exit) ≡ valueOut 1 (readSaid (now (sheet .entry))) (now (links .entry)) ⌝ }
+    ensures { λ _. ⌜ now (marks .exit) ≡ valueOut 2 (readSaid (now (sheet .entry))) (now (marks .entry)) ⌝ }
 {
     let a = tbox::read(sheet);
     match a {
@@ -47,9 +46,9 @@ pub extern "C" fn lodhrussi_read(
 // List marks: three bytes a part into the list.
 #[no_mangle]
 pub extern "C" fn lodhrussi_list_marks(sheet: &[u8], list: &mut [u8], place: &mut u64) -> u64
-    ensures { λ r. ⌜ r ≡ resultOut (listSays (readKb limit (now (sheet .entry))) (now (list .entry))) ⌝ }
-    ensures { λ _. ⌜ now (place .exit) ≡ placeOut (listSays (readKb limit (now (sheet .entry))) (now (list .entry))) (now (place .entry)) ⌝ }
-    ensures { λ _. ⌜ now (list .exit) ≡ listLeaves (readKb limit (now (sheet .entry))) (now (list .entry)) ⌝ }
+    ensures { λ r. ⌜ r ≡ resultOut (listSaid (now (sheet .entry)) (now (list .entry))) ⌝ }
+    ensures { λ _. ⌜ now (place .exit) ≡ placeOut (listSaid (now (sheet .entry)) (now (list .entry))) (now (place .entry)) ⌝ }
+    ensures { λ _. ⌜ now (list .exit) ≡ listLeft (now (sheet .entry)) (now (list .entry)) ⌝ }
 {
     let a = tbox::list_marks(sheet, list);
     match a {
@@ -69,10 +68,10 @@ pub extern "C" fn lodhrussi_open(
     place: &mut u64,
     size: &mut u64,
 ) -> u64
-    ensures { λ r. ⌜ r ≡ resultOut (openSays (readKb limit (now (sheet .entry))) (now (set .entry))) ⌝ }
-    ensures { λ _. ⌜ now (place .exit) ≡ placeOut (openSays (readKb limit (now (sheet .entry))) (now (set .entry))) (now (place .entry)) ⌝ }
-    ensures { λ _. ⌜ now (size .exit) ≡ valueOut 0 (openSays (readKb limit (now (sheet .entry))) (now (set .entry))) (now (size .entry)) ⌝ }
-    ensures { λ _. ⌜ now (set .exit) ≡ openLeaves (readKb limit (now (sheet .entry))) (now (set .entry)) ⌝ }
+    ensures { λ r. ⌜ r ≡ resultOut (openSaid (now (sheet .entry)) (now (set .entry))) ⌝ }
+    ensures { λ _. ⌜ now (place .exit) ≡ placeOut (openSaid (now (sheet .entry)) (now (set .entry))) (now (place .entry)) ⌝ }
+    ensures { λ _. ⌜ now (size .exit) ≡ valueOut 0 (openSaid (now (sheet .entry)) (now (set .entry))) (now (size .entry)) ⌝ }
+    ensures { λ _. ⌜ now (set .exit) ≡ openLeft (now (sheet .entry)) (now (set .entry)) ⌝ }
 {
     let a = domino::open(sheet, set);
     match a {
@@ -116,11 +115,11 @@ pub extern "C" fn lodhrussi_strike(
     verdict: &mut u64,
     condition: &mut u64,
 ) -> u64
-    ensures { λ r. ⌜ r ≡ resultOut (strikeSays (readKb limit (now (sheet .entry))) number (now (set .entry))) ⌝ }
-    ensures { λ _. ⌜ now (place .exit) ≡ placeOut (strikeSays (readKb limit (now (sheet .entry))) number (now (set .entry))) (now (place .entry)) ⌝ }
-    ensures { λ _. ⌜ now (verdict .exit) ≡ valueOut 1 (strikeSays (readKb limit (now (sheet .entry))) number (now (set .entry))) (now (verdict .entry)) ⌝ }
-    ensures { λ _. ⌜ now (condition .exit) ≡ valueOut 2 (strikeSays (readKb limit (now (sheet .entry))) number (now (set .entry))) (now (condition .entry)) ⌝ }
-    ensures { λ _. ⌜ now (set .exit) ≡ strikeLeaves (readKb limit (now (sheet .entry))) number (now (set .entry)) ⌝ }
+    ensures { λ r. ⌜ r ≡ resultOut (strikeSaid (now (sheet .entry)) number (now (set .entry))) ⌝ }
+    ensures { λ _. ⌜ now (place .exit) ≡ placeOut (strikeSaid (now (sheet .entry)) number (now (set .entry))) (now (place .entry)) ⌝ }
+    ensures { λ _. ⌜ now (verdict .exit) ≡ valueOut 1 (strikeSaid (now (sheet .entry)) number (now (set .entry))) (now (verdict .entry)) ⌝ }
+    ensures { λ _. ⌜ now (condition .exit) ≡ valueOut 2 (strikeSaid (now (sheet .entry)) number (now (set .entry))) (now (condition .entry)) ⌝ }
+    ensures { λ _. ⌜ now (set .exit) ≡ strikeLeft (now (sheet .entry)) number (now (set .entry)) ⌝ }
 {
     let a = domino::strike(sheet, set, number as usize);
     match a {
@@ -144,10 +143,10 @@ pub extern "C" fn lodhrussi_settle(
     place: &mut u64,
     survivors: &mut u64,
 ) -> u64
-    ensures { λ r. ⌜ r ≡ resultOut (settleSays (readKb limit (now (sheet .entry))) (now (set .entry))) ⌝ }
-    ensures { λ _. ⌜ now (place .exit) ≡ placeOut (settleSays (readKb limit (now (sheet .entry))) (now (set .entry))) (now (place .entry)) ⌝ }
-    ensures { λ _. ⌜ now (survivors .exit) ≡ valueOut 0 (settleSays (readKb limit (now (sheet .entry))) (now (set .entry))) (now (survivors .entry)) ⌝ }
-    ensures { λ _. ⌜ now (set .exit) ≡ settleLeaves (readKb limit (now (sheet .entry))) (now (set .entry)) ⌝ }
+    ensures { λ r. ⌜ r ≡ resultOut (settleSaid (now (sheet .entry)) (now (set .entry))) ⌝ }
+    ensures { λ _. ⌜ now (place .exit) ≡ placeOut (settleSaid (now (sheet .entry)) (now (set .entry))) (now (place .entry)) ⌝ }
+    ensures { λ _. ⌜ now (survivors .exit) ≡ valueOut 0 (settleSaid (now (sheet .entry)) (now (set .entry))) (now (survivors .entry)) ⌝ }
+    ensures { λ _. ⌜ now (set .exit) ≡ settleLeft (now (sheet .entry)) (now (set .entry)) ⌝ }
 {
     let a = domino::settle(sheet, set);
     match a {
@@ -172,12 +171,12 @@ pub extern "C" fn lodhrussi_judge(
     survivors: &mut u64,
     met: &mut u64,
 ) -> u64
-    ensures { λ r. ⌜ r ≡ resultOut (judgeSays (readKb limit (now (sheet .entry))) (now (set .entry))) ⌝ }
-    ensures { λ _. ⌜ now (place .exit) ≡ placeOut (judgeSays (readKb limit (now (sheet .entry))) (now (set .entry))) (now (place .entry)) ⌝ }
-    ensures { λ _. ⌜ now (opening .exit) ≡ valueOut 0 (judgeSays (readKb limit (now (sheet .entry))) (now (set .entry))) (now (opening .entry)) ⌝ }
-    ensures { λ _. ⌜ now (survivors .exit) ≡ valueOut 1 (judgeSays (readKb limit (now (sheet .entry))) (now (set .entry))) (now (survivors .entry)) ⌝ }
-    ensures { λ _. ⌜ now (met .exit) ≡ valueOut 2 (judgeSays (readKb limit (now (sheet .entry))) (now (set .entry))) (now (met .entry)) ⌝ }
-    ensures { λ _. ⌜ now (set .exit) ≡ judgeLeaves (readKb limit (now (sheet .entry))) (now (set .entry)) ⌝ }
+    ensures { λ r. ⌜ r ≡ resultOut (judgeSaid (now (sheet .entry)) (now (set .entry))) ⌝ }
+    ensures { λ _. ⌜ now (place .exit) ≡ placeOut (judgeSaid (now (sheet .entry)) (now (set .entry))) (now (place .entry)) ⌝ }
+    ensures { λ _. ⌜ now (opening .exit) ≡ valueOut 0 (judgeSaid (now (sheet .entry)) (now (set .entry))) (now (opening .entry)) ⌝ }
+    ensures { λ _. ⌜ now (survivors .exit) ≡ valueOut 1 (judgeSaid (now (sheet .entry)) (now (set .entry))) (now (survivors .entry)) ⌝ }
+    ensures { λ _. ⌜ now (met .exit) ≡ valueOut 2 (judgeSaid (now (sheet .entry)) (now (set .entry))) (now (met .entry)) ⌝ }
+    ensures { λ _. ⌜ now (set .exit) ≡ judgeLeft (now (sheet .entry)) (now (set .entry)) ⌝ }
 {
     let a = domino::judge(sheet, set);
     match a {

@@ -1,5 +1,12 @@
+-- What must be believed:
+--   Answers   what open, strike, settle and judge answer and leave
+--   Demanded  demands 1 to 3
+--   Reasons   what a strike tells (02, N2)
+--   Decides   the one statement a user wants: bytes in, verdict out
+-- What proofs and statements about these definitions use:
+--   Examples  the worked sheets and strikes as rows of one table
 pub mod Answers
-pub mod Decides
 pub mod Demanded
-pub mod Examples
 pub mod Reasons
+pub mod Decides
+pub mod Examples

@@ -1,2 +1,5 @@
-pub mod Settling
+-- What functions tell each other:
+--   Sweeps    what the steps of settling take out
+--   Settling  what settling and judging leave and answer
 pub mod Sweeps
+pub mod Settling

@@ -1,1 +1,3 @@
+-- What must be believed:
+--   Sheet  how much the evening program reads
 pub mod Sheet
