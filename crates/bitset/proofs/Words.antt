@@ -1,6 +1,6 @@
 -- Laws of sets in lists of words: the words of a set have its members, a list of words is that of its members, and one number is put in or taken out.
 use mathlib.Core.Path.{_≡_, refl, sym, ap, ap₂, subst, _∙_}
-use mathlib.Core.Bool.{Bool, true, false, cond, not, _&&_, _||_}
+use mathlib.Core.Bool.{Bool, false, cond, not, _&&_, _||_, and-true, or-false}
 use mathlib.Core.List.{List, [], _∷_, _++_}
 use Prim.Native.Nat.{ℕ, zero, suc, _+_, _-_, _*_, _/_, _%_, _^_, _≤_, _<_}
 use native.Mathlib.Nat.{mod-eq-of-lt}
@@ -15,14 +15,6 @@ use borrow.Author.Tests.{eq-eqb, ne-eqb}
 use Rattle.bitset.specs.Bits.{Set, bit, word, wordAt, look, wordsFrom, words, areWords, without, inserted, cleared}
 use Rattle.bitset.proofs.Facts.{and-left, and-right, and-both}
 use Rattle.bitset.proofs.Laws.{word-lt, word-ext, word-not, word-and, word-or, word-none, bit-word, word-bits, bit-wordAt, wordAt-lt, wordAt-same}
-
-and-yes : (b : Bool) → (b && true) ≡ b
-and-yes true = refl
-and-yes false = refl
-
-or-no : (b : Bool) → (b || false) ≡ b
-or-no true = refl
-or-no false = refl
 
 -- ---- one digit of a word
 
@@ -247,8 +239,8 @@ look-set ws n f z h p = go (ℕ-discrete (p / 64) (n / 64))
 
 pub look-cleared : (ws : List ℕ) (n : ℕ) → n / 64 < length ws → (p : ℕ) → look (cleared ws n) p ≡ without (look ws) n p
 unfolding cleared
-look-cleared ws n h p = look-set ws n (λ a b. a && not b) and-yes h p
+look-cleared ws n h p = look-set ws n (λ a b. a && not b) and-true h p
 
 pub look-inserted : (ws : List ℕ) (n : ℕ) → n / 64 < length ws → (p : ℕ) → look (inserted ws n) p ≡ (look ws p || eqb p n)
 unfolding inserted
-look-inserted ws n h p = look-set ws n (λ a b. a || b) or-no h p
+look-inserted ws n h p = look-set ws n (λ a b. a || b) or-false h p

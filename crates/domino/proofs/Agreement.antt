@@ -7,7 +7,7 @@ use mathlib.Core.Bool.{Bool, true, false, not, _&&_, _||_, cond}
 use mathlib.Core.List.{List}
 use lib.Dec.{eqb, ltb}
 use lib.ListN.{length}
-use borrow.Author.Tests.{lt-ltb, ltb-true}
+use borrow.Author.Tests.{lt-ltb, ltb-true, eqb-true}
 use Rattle.bitset.specs.Bits.{Set, bit, look, cleared}
 use Rattle.bitset.proofs.Facts.{T-of}
 use Rattle.bitset.proofs.Laws.{bit-wordAt}
@@ -17,6 +17,7 @@ use Rattle.elimination.specs.Elimination.{settled, Monotone}
 use Rattle.elimination.specs.Calls.{strikeWords}
 use Rattle.elimination.proofs.Settling.{same-by, stable-at, stable-by, settled-sub, settled-stable, settled-keeps, settled-same}
 use Rattle.elimination.proofs.Written.{written-same}
+use Rattle.elimination.proofs.Quantifiers.{all-same, any-same}
 use Rattle.syntax.specs.Flatten.{everything, nothing, nameA, Filler, atomic, fresh, Part, nameP, freshP, existsP, forallP, partAt}
 use Rattle.syntax.specs.Bounds.{FillerLow, PartLow}
 use Rattle.syntax.specs.Truth.{kbOn}
@@ -29,12 +30,11 @@ use Rattle.syntax.proofs.Promised.{kb-few, kb-fillers}
 use Rattle.semantics.specs.Dominoes.{Dominoes, leftOf, rolesOf, rightOf, numbered}
 use Rattle.semantics.specs.Conditions.{View, kb, ex, uni, witness, delex, deluni, sym, initially, dominoes, initial, defective, defectAt, canon}
 use Rattle.semantics.specs.Views.{fillerIn, hasFiller, kbView}
-use Rattle.semantics.proofs.Truths.{true-eqb, all-same, any-same}
 use Rattle.semantics.proofs.Numbers.{domino-of}
 use Rattle.semantics.proofs.Defects.{defect-cases, defective-is, defective-monotone}
 use Rattle.domino.specs.declared.Outcome.{Outcome}
 use Rattle.domino_settling.specs.declared.judging.Judgement.{Judgement}
-use Rattle.domino_conditions.specs.Tables.{inLabel, view, Sized}
+use Rattle.domino_conditions.specs.Tables.{fillerInLabel, view, Sized}
 use Rattle.domino.specs.Answers.{verdictOf, StrikesSet}
 use Rattle.domino_initial.specs.Opening.{OpensSet}
 use Rattle.domino_settling.specs.Settling.{SettlesSet, JudgesSet}
@@ -89,7 +89,7 @@ module _ (v w : View) (a : Agree v w) where
   asked : (k n : ℕ) (x y p q : Bool) → k < v .parts → 2 ≤ n → (((B : ℕ) → v .has k B ≡ w .has k B) → (x ≡ y) × (p ≡ q))
       → (not (eqb (v .kind k) n && x) || p) ≡ (not (eqb (w .kind k) n && y) || q)
   asked k n x y p q h l f =
-      implies (eqb (v .kind k) n) x y p q (λ e. let i : v .kind k ≡ n = true-eqb e in f (λ B. a .has k B h (omega arith)))
+      implies (eqb (v .kind k) n) x y p q (λ e. let i : v .kind k ≡ n = eqb-true _ _ e in f (λ B. a .has k B h (omega arith)))
       ∙ ap (λ (m : ℕ). not (eqb m n && y) || q) (a .kind k h)
 
   ex-same : (A R B : ℕ) → R < 2 ^ (2 * v .roles) → ex v A R B ≡ ex u A R B
@@ -212,14 +212,14 @@ module _ (v w : View) (a : Agree v w) where
 
 -- ---- the tables of a loaded knowledge base
 
-filler-has : (c : ℕ) → c ≤ 12 → (f : Filler) → FillerLow c f → (B : ℕ) → inLabel (fillerNo f) B ≡ fillerIn f (bit B)
-unfolding inLabel fillerNo fillerIn
+filler-has : (c : ℕ) → c ≤ 12 → (f : Filler) → FillerLow c f → (B : ℕ) → fillerInLabel (fillerNo f) B ≡ fillerIn f (bit B)
+unfolding fillerInLabel fillerNo fillerIn
 filler-has c h (atomic everything) l B = refl
 filler-has c h (atomic nothing) l B = refl
 filler-has c h (atomic (nameA t)) l B = rw (lt-ltb t 64 (omega arith))
 filler-has c h (fresh j) l B = rw (lt-ltb j 64 (omega arith))
 
-part-has : (c : ℕ) → c ≤ 12 → (p : Part) → PartLow c p → 2 ≤ kindOf p → (B : ℕ) → inLabel (fillerOf p) B ≡ hasFiller p B
+part-has : (c : ℕ) → c ≤ 12 → (p : Part) → PartLow c p → 2 ≤ kindOf p → (B : ℕ) → fillerInLabel (fillerOf p) B ≡ hasFiller p B
 unfolding kindOf fillerOf hasFiller
 part-has c h (nameP t) l k B = absurd (omega arith)
 part-has c h (freshP g d) l k B = absurd (omega arith)
@@ -241,7 +241,7 @@ module _ (sheet : List ℕ) {k : Kb} (e : readKb limit sheet ≡ kbR k) (b : Bas
         ∙ bit-wordAt (roleHolds (partAt (partsOf k) i)) (R / 64) (R % 64) (omega arith)
         ∙ ap (roleHolds (partAt (partsOf k) i)) (omega arith);
     has = λ i B h l.
-        ap (λ (x : ℕ). inLabel x B) (f .filler i h)
+        ap (λ (x : ℕ). fillerInLabel x B) (f .filler i h)
         ∙ part-has (length (partsOf k)) (omega (arith, f .small, f .count)) (partAt (partsOf k) i) (kb-fillers limit sheet e i)
         (omega (arith, f .kind i h)) B;
     good = λ A h.

@@ -1,5 +1,6 @@
 -- What open, strike, settle and judge answer and leave, from what loading answers and what is done on the tables.
 use Prim.Native.Nat.{ℕ, _+_, _≤_, _<_}
+use native.Mathlib.Decide.{decLt, ℕ-discrete}
 use native.Mathlib.Omega.{arith}
 use mathlib.Core.Path.{_≡_, refl, sym as flip, ap, ap₂, subst, _∙_}
 use mathlib.Core.Bool.{Bool, true, false, not, cond}
@@ -7,11 +8,11 @@ use mathlib.Core.List.{List, [], _∷_}
 use lib.Dec.{eqb, ltb}
 use lib.ListN.{length}
 use Rattle.bitset.specs.Bits.{wordsFor}
-use borrow.Author.Tests.{lt-ltb, le-ltb}
+use borrow.Author.Tests.{ne-eqb, lt-ltb, le-ltb}
 use Rattle.tbox.specs.declared.base.Loaded.{Loaded}
 use Rattle.syntax.specs.Reading.{Kb, Reading, refusal, kb, readKb}
 use Rattle.syntax.specs.Answers.{limit}
-use Rattle.tbox.specs.Promise.{Loads}
+use Rattle.tbox.specs.Promise.{Flattened, Loads}
 use Rattle.semantics.specs.Dominoes.{total}
 use Rattle.semantics.specs.Conditions.{dominoes, held}
 use Rattle.semantics.specs.Views.{kbView}
@@ -23,7 +24,7 @@ use Rattle.domino.specs.declared.StrikeAnswer.the-variants.{Refused as N
 use Rattle.domino.specs.declared.SettleAnswer.the-variants.{Refused as NotSettled, Settled}
 use Rattle.domino.specs.declared.JudgeAnswer.the-variants.{Refused as NotJudged, Judged}
 use Rattle.domino_conditions.specs.Tables.{view, Enough}
-use Rattle.domino.specs.Answers.{onSet, saysOnSet, leavesOnSet, LoadsFor, openNumbers, openSays, openLeaves, Opens, settleNumbers, settleSays, settleLeaves, Settles, verdictNumbers, strikeNumbers, strikeSays, strikeLeaves, Strikes, StrikesSet, judgeNumbers, judgeSays, judgeLeaves, Judges}
+use Rattle.domino.specs.Answers.{onSet, saysOnSet, leavesOnSet, faultOnSet, openNumbers, openSays, openLeaves, Opens, settleNumbers, settleSays, settleLeaves, Settles, verdictNumbers, strikeNumbers, strikeSays, strikeLeaves, Strikes, StrikesSet, judgeNumbers, judgeSays, judgeLeaves, Judges}
 use Rattle.domino_initial.specs.Opening.{OpensSet}
 use Rattle.domino_settling.specs.Settling.{SettlesSet, JudgesSet}
 use Rattle.domino.proofs.OnSet.{on-refused, on-short, says-refusal, leaves-refusal, says-enough, leaves-enough}
@@ -36,35 +37,57 @@ turned false = refl
 
 -- ---- a sheet loaded for a set of so many words
 
+-- what every call on so many words refuses with, or fault 0 and the knowledge base, for which the words are enough
+pub record LoadsFor (sheet : List ℕ) (words : ℕ) (r : Loaded) : Type 0 where
+  pub refused : (r .fault ≡ 0 → ⊥) → onSet refusal kb (readKb limit sheet) words ≡ refusal (r .fault) (r .place)
+  pub read : r .fault ≡ 0 → (k : Kb) × (readKb limit sheet ≡ kb k) × (held (kbView k) ≤ words) × Flattened k (r .base)
+
 module _ (sheet : List ℕ) (r : Loaded) (l : Loads sheet r) (words : ℕ) where
-  pub load-refused : (r .fault ≡ 0 → ⊥) → LoadsFor sheet words r
-  load-refused f =
+  -- what is loaded, with the refusal x of the call
+  abbrev with : ℕ → Loaded
+  with x = record { fault = x; place = r .place; base = r .base }
+
+  refused-for : (r .fault ≡ 0 → ⊥) → (x : ℕ) → x ≡ r .fault → LoadsFor sheet words (with x)
+  refused-for f x e =
       record {
-        refused = λ g. ap (λ (s : Reading). onSet refusal kb s words) (l .refused f) ∙ on-refused refusal kb words (r .fault) (r .place);
-        read = λ z. absurd (f z);
+        refused = λ g.
+            ap (λ (s : Reading). onSet refusal kb s words) (l .refused f)
+            ∙ on-refused refusal kb words (r .fault) (r .place)
+            ∙ ap (λ (n : ℕ). refusal n (r .place)) (flip e);
+        read = λ z. absurd (f (flip e ∙ z));
       }
 
-  -- n is the number of words needed
-  module _ (z : r .fault ≡ 0) (n : ℕ) (m : n ≡ wordsFor (total (r .base .parts .count) (r .base .parts .roles))) where
-    needed : n ≡ held (kbView (l .read z .0))
-    needed = m ∙ ap wordsFor (ap₂ total (l .read z .2 .count) (l .read z .2 .roles))
+  module _ (z : r .fault ≡ 0) where
+    needed : wordsFor (total (r .base .parts .count) (r .base .parts .roles)) ≡ held (kbView (l .read z .0))
+    needed = ap wordsFor (ap₂ total (l .read z .2 .count) (l .read z .2 .roles))
 
-    pub load-short : words < n → (q : Loaded) → q .fault ≡ 10 → q .place ≡ 0 → LoadsFor sheet words q
-    load-short h q f p =
+    short-for : words < held (kbView (l .read z .0)) → (x : ℕ) → x ≡ 10 → LoadsFor sheet words (with x)
+    short-for h x e =
         record {
           refused = λ g.
               ap (λ (s : Reading). onSet refusal kb s words) (l .read z .1)
-              ∙ on-short refusal kb words (l .read z .0) (subst (λ (x : ℕ). words < x) needed h)
-              ∙ ap₂ refusal (flip f) (flip p);
+              ∙ on-short refusal kb words (l .read z .0) h
+              ∙ ap₂ refusal (flip e) (flip (l .place z));
           read = λ y. absurd (omega arith);
         }
 
-    pub load-enough : n ≤ words → LoadsFor sheet words r
-    load-enough h =
+    enough-for : held (kbView (l .read z .0)) ≤ words → (x : ℕ) → x ≡ 0 → LoadsFor sheet words (with x)
+    enough-for h x e =
         record {
-          refused = λ f. absurd (f z);
-          read = λ y. (l .read z .0, l .read z .1, subst (λ (x : ℕ). x ≤ words) needed h, l .read z .2);
+          refused = λ f. absurd (f e);
+          read = λ y. (l .read z .0, l .read z .1, h, l .read z .2);
         }
+
+  pub loads-for : (x : ℕ) → x ≡ faultOnSet (r .fault) (r .base .parts .count) (r .base .parts .roles) words → LoadsFor sheet words (with x)
+  loads-for x e = go (ℕ-discrete (r .fault) 0)
+    where
+      sized : (z : r .fault ≡ 0) → Dec (words < held (kbView (l .read z .0))) → LoadsFor sheet words (with x)
+      sized z (yes h) = short-for z h x (rw (z, needed z, lt-ltb words _ h) at e)
+      sized z (no h) = enough-for z (omega (arith, h)) x (rw (z, needed z, le-ltb words (held (kbView (l .read z .0))) (omega (arith, h))) at e)
+
+      go : Dec (r .fault ≡ 0) → LoadsFor sheet words (with x)
+      go (no f) = refused-for f x (rw (ne-eqb (r .fault) 0 f) at e)
+      go (yes z) = sized z (decLt words (held (kbView (l .read z .0))))
 
 -- what the tables of a sheet that is read are good for
 module _ (sheet : List ℕ) (r : Loaded) (words : ℕ) (l : LoadsFor sheet words r) (z : r .fault ≡ 0) where

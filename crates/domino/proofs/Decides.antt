@@ -27,7 +27,7 @@ use Rattle.domino.proofs.WordsEnough.{judge-says, judge-leaves}
 use Rattle.domino.proofs.Demand2.{canon-number, judged, values, verdict-is, survives}
 
 -- lists of other lengths
-unequal : {A : Type 0} (a b : List ℕ) → a ≡ b → length a < length b → A
+pub unequal : {A : Type 0} (a b : List ℕ) → a ≡ b → length a < length b → A
 unequal a b e h = absurd (omega (arith, ap length e))
 
 -- ---- a refusal

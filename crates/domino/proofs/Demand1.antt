@@ -10,6 +10,7 @@ use lib.Dec.{ltb}
 use lib.ListN.{length, drop}
 use borrow.Author.Tests.{ltb-true, ltb-false}
 use Rattle.bitset.specs.Bits.{Set, look, cleared}
+use Rattle.bitset.proofs.RunLaws.{words-room}
 use Rattle.elimination.specs.Sets.{Same}
 use Rattle.elimination.specs.Elimination.{settled}
 use Rattle.elimination.specs.Calls.{written, strikeWords}
@@ -24,7 +25,7 @@ use Rattle.semantics.proofs.Defects.{defective-monotone}
 use Rattle.domino.specs.Answers.{isShort, isSetRefusal, isStrikeRefusal, saysOnSet, leavesOnSet, verdictNumbers, verdictOf, openSays, openLeaves, strikeSays, strikeLeaves, settleSays, settleLeaves, judgeSays, judgeLeaves}
 use Rattle.domino.specs.Demanded.{refusalOf, placeOf, Refuses, Demand1, Demand1Done}
 use Rattle.domino.proofs.OnSet.{says-refused, leaves-refused, says-short, leaves-short, says-enough, leaves-enough}
-use Rattle.domino.proofs.WordsEnough.{held-room, held-some, open-says, open-leaves, strike-says, strike-beyond, settle-says, settle-leaves, judge-says, judge-leaves}
+use Rattle.domino.proofs.WordsEnough.{held-some, open-says, open-leaves, strike-says, strike-beyond, settle-says, settle-leaves, judge-says, judge-leaves}
 
 -- ---- the numbers of refusals are those of an interval
 
@@ -141,13 +142,13 @@ module _ (sheet ws : List ℕ) where
       go k e h true r =
           from-done isStrikeRefusal struck-too sheet ws k e _ (strikeWords (dominoes (kbView k)) (defective (kbView k)) n ws) h
           (strike-long (dominoes (kbView k)) (defective (kbView k)) n ws)
-          (strike-past (held (kbView k)) (dominoes (kbView k)) (defective (kbView k)) n ws (held-room (kbView k)))
+          (strike-past (held (kbView k)) (dominoes (kbView k)) (defective (kbView k)) n ws (words-room (dominoes (kbView k))))
       go k e h false r =
           from-enough isStrikeRefusal struck-too sheet ws k e (11 ∷ 0 ∷ []) (strikeWords (dominoes (kbView k)) (defective (kbView k)) n ws)
           h refl refl
           (λ a. (refl, ap (λ (x : Bool). cond (x && (look ws n && defective (kbView k) (look ws) n)) (cleared ws n) ws) r))
           (strike-long (dominoes (kbView k)) (defective (kbView k)) n ws)
-          (strike-past (held (kbView k)) (dominoes (kbView k)) (defective (kbView k)) n ws (held-room (kbView k)))
+          (strike-past (held (kbView k)) (dominoes (kbView k)) (defective (kbView k)) n ws (words-room (dominoes (kbView k))))
 
   settle-refuses : Refuses isSetRefusal sheet ws (settleSays (readKb limit sheet) ws) (settleLeaves (readKb limit sheet) ws)
   unfolding settleSays settleLeaves
@@ -190,7 +191,7 @@ module _ (k : Kb) (ws : List ℕ) (h : held (kbView k) ≤ length ws) where
       let us : List ℕ = written (held v) (dominoes v) (initial v) ws in
       let left : Set = settled (dominoes v) (defective v) (look us) in
       let same : Same (dominoes v) (canon v) left = λ p l. flip (settled-same (dominoes v) (defective v) (defective-monotone v) (look us) (initial v)
-      (written-look (held v) (dominoes v) (initial v) ws (held-room v)) p l) in
+      (written-look (held v) (dominoes v) (initial v) ws (words-room (dominoes v))) p l) in
       judge-leaves k ws h
       ∙ written-same (held v) (dominoes v) (canon v) left ws same
       ∙ flip (written-again (held v) (dominoes v) (initial v) left ws)

@@ -10,8 +10,9 @@ use lib.Dec.{T, eqb}
 use lib.ListN.{length, getD, take}
 use borrow.Author.Tests.{eqb-true, eqb-false}
 use Rattle.bitset.specs.Bits.{Set, look, areWords, size, onesOf}
-use Rattle.bitset.proofs.Facts.{either, T-of}
+use Rattle.bitset.proofs.Facts.{either, T-of, is-true, of-true}
 use Rattle.bitset.proofs.Sizes.{size-none}
+use Rattle.bitset.proofs.RunLaws.{words-room}
 use Rattle.elimination.specs.Sets.{Same}
 use Rattle.elimination.specs.Elimination.{isStable, steps}
 use Rattle.elimination.proofs.Settling.{stable-same, canonical-largest, definition-5}
@@ -21,14 +22,13 @@ use Rattle.syntax.specs.Answers.{limit}
 use Rattle.semantics.specs.Dominoes.{Met, Domino, number, leftOf, rolesOf, rightOf, inverse, unnumbered}
 use Rattle.semantics.specs.Conditions.{View, dominoes, initial, lacks, defective, canon, canonDominoes, held}
 use Rattle.semantics.specs.Views.{kbView}
-use Rattle.semantics.proofs.Truths.{is-true, of-true}
 use Rattle.semantics.proofs.Numbers.{number-lt, left-number}
 use Rattle.semantics.proofs.Defects.{lacks-monotone, defective-monotone}
 use Rattle.semantics.proofs.Canonical.{dominoesOf, of-domino, of-number, of-unnumbered, canon-stable, canon-largest, canon-sym, canon-begins}
 use Rattle.semantics.proofs.Verdict.{sheet-verdict, model-dominoes}
 use Rattle.domino.specs.Answers.{judgeSays, judgeLeaves}
 use Rattle.domino.specs.Demanded.{Demand2, NeverStranded, Demand2Models}
-use Rattle.domino.proofs.WordsEnough.{held-room, open-leaves, judge-says, judge-leaves, stable-words, words-stable}
+use Rattle.domino.proofs.WordsEnough.{open-leaves, judge-says, judge-leaves, stable-words, words-stable}
 
 -- ---- the canonical set on numbers and as dominoes
 
@@ -89,7 +89,7 @@ module _ (k : Kb) (ws : List ℕ) (h : held (kbView k) ≤ length ws) where
   pub judged : Same (dominoes (kbView k)) (look (judgeLeaves (kb k) ws)) (canon (kbView k))
   judged p l =
       ap (λ (us : List ℕ). look us p) (judge-leaves k ws h)
-      ∙ written-look (held (kbView k)) (dominoes (kbView k)) (canon (kbView k)) ws (held-room (kbView k)) p l
+      ∙ written-look (held (kbView k)) (dominoes (kbView k)) (canon (kbView k)) ws (words-room (dominoes (kbView k))) p l
 
   -- the three values of an answer that is no refusal
   pub values : (opening survivors met : ℕ) → judgeSays (kb k) ws ≡ 0 ∷ 0 ∷ opening ∷ survivors ∷ met ∷ []
@@ -122,9 +122,9 @@ module _ (k : Kb) (ws : List ℕ) (h : held (kbView k) ≤ length ws) where
         counts = λ o n m e.
             let w = values o n m e in (
               w .0 ∙ flip (ap (λ (l : List ℕ). onesOf (take (held v) l)) (open-leaves k ws h)
-                  ∙ written-ones (held v) (dominoes v) (initial v) ws (held-room v) t h),
+                  ∙ written-ones (held v) (dominoes v) (initial v) ws (words-room (dominoes v)) t h),
               w .1 ∙ flip (ap (λ (l : List ℕ). onesOf (take (held v) l)) (judge-leaves k ws h)
-                  ∙ written-ones (held v) (dominoes v) (canon v) ws (held-room v) t h),
+                  ∙ written-ones (held v) (dominoes v) (canon v) ws (words-room (dominoes v)) t h),
             );
       }
 

@@ -10,6 +10,7 @@ use borrow.Author.Tests.{lt-ltb, le-ltb, ltb-true, eq-eqb, ne-eqb}
 use Rattle.bitset.specs.Bits.{Set, look, areWords, cleared, size, onesOf}
 use Rattle.bitset.proofs.Facts.{T-of}
 use Rattle.bitset.proofs.Words.{look-cleared}
+use Rattle.bitset.proofs.RunLaws.{words-room}
 use Rattle.elimination.specs.Sets.{Same}
 use Rattle.elimination.specs.Elimination.{isStable, settled, Monotone, Largest}
 use Rattle.elimination.specs.Calls.{Call, strike, settle, runWith, strikeWords, actWords, after, Demand3Words}
@@ -23,7 +24,7 @@ use Rattle.semantics.specs.Views.{kbView}
 use Rattle.semantics.proofs.Defects.{lacks-monotone, defective-is, defective-monotone}
 use Rattle.domino.specs.Answers.{openLeaves, settleLeaves}
 use Rattle.domino.specs.Demanded.{StableWords, called, callsLeave, Demand3, Demand3Calls}
-use Rattle.domino.proofs.WordsEnough.{held-room, open-says, open-leaves, strike-leaves, settle-says, settle-leaves, judge-leaves, stable-words, words-stable}
+use Rattle.domino.proofs.WordsEnough.{open-says, open-leaves, strike-leaves, settle-says, settle-leaves, judge-leaves, stable-words, words-stable}
 
 -- ---- single calls
 
@@ -63,14 +64,14 @@ single-calls k ws t h =
     let v : View = kbView k in
     let N : ℕ = dominoes v in
     let left : Set = settled N (defective v) (look ws) in
-    let room : dominoes (kbView k) ≤ 64 * length ws = omega (arith, held-room v) in
+    let room : dominoes (kbView k) ≤ 64 * length ws = omega (arith, words-room (dominoes v)) in
     let at : (us vs : List ℕ) (n : ℕ) → us ≡ vs → look us n ≡ look vs n = λ us vs n e. ap (λ (l : List ℕ). look l n) e in
     let best : Largest N (defective v) (look ws) (look (settleLeaves (kb k) ws)) =
     largest-same N (defective v) (defective-monotone v) (look ws) left (look (settleLeaves (kb k) ws))
-    (λ p l. at _ _ p (settle-leaves k ws h) ∙ written-look (held v) N left ws (held-room v) p l)
+    (λ p l. at _ _ p (settle-leaves k ws h) ∙ written-look (held v) N left ws (words-room (dominoes v)) p l)
     (settled-largest N (defective v) (defective-monotone v) (look ws)) in
     record {
-      opened = λ p l. at _ _ p (open-leaves k ws h) ∙ written-look (held v) N (initial v) ws (held-room v) p l;
+      opened = λ p l. at _ _ p (open-leaves k ws h) ∙ written-look (held v) N (initial v) ws (words-room (dominoes v)) p l;
       struck = λ n l.
           at _ _ n (strike-leaves k ws h n)
           ∙ strike-named N (defective v) n ws (eqb (defectAt v (look ws) n) 0) l room (defective-is v (look ws) n);
@@ -83,7 +84,7 @@ single-calls k ws t h =
       count =
           settle-says k ws h
           ∙ ap (λ (m : ℕ). 0 ∷ 0 ∷ m ∷ [])
-          (flip (ap (λ (l : List ℕ). onesOf (take (held v) l)) (settle-leaves k ws h) ∙ written-ones (held v) N left ws (held-room v) t h));
+          (flip (ap (λ (l : List ℕ). onesOf (take (held v) l)) (settle-leaves k ws h) ∙ written-ones (held v) N left ws (words-room (dominoes v)) t h));
     }
 
 pub demand-3-calls : (sheet : List ℕ) (k : Kb) → readKb limit sheet ≡ kb k → (ws : List ℕ) → T (areWords ws)
@@ -135,11 +136,11 @@ list-of-calls k cs ws t h =
     let a : List ℕ = after (held v) (dominoes v) (initial v) (lacks v) cs ws in
     let same : callsLeave (kb k) cs ws ≡ a = calls-leave k cs ws h in
     let d : Demand3Words (held v) (dominoes v) (initial v) (lacks v) cs ws =
-    demand-3-words (held v) (dominoes v) (initial v) (lacks v) (lacks-monotone v) (held-room v) cs ws t h in
+    demand-3-words (held v) (dominoes v) (initial v) (lacks v) (lacks-monotone v) (words-room (dominoes v)) cs ws t h in
     record {
       past = ap (drop (held v)) same ∙ d .past;
       keeps = λ p l u. subst (λ (us : List ℕ). T (look us p)) (flip same) (d .keeps p l
-          (T-of (ap (λ (us : List ℕ). look us p) (judge-leaves k ws h) ∙ written-look (held v) (dominoes v) (canon v) ws (held-room v) p l) u));
+          (T-of (ap (λ (us : List ℕ). look us p) (judge-leaves k ws h) ∙ written-look (held v) (dominoes v) (canon v) ws (words-room (dominoes v)) p l) u));
       exact = λ r.
           ap (take (held v)) same
           ∙ d .exact (subst (λ (us : List ℕ). T (isStable (dominoes v) (defective v) (look us))) same (words-stable v (callsLeave (kb k) cs ws) r))

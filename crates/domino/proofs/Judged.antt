@@ -10,11 +10,11 @@ use lib.ListN.{length}
 use borrow.Author.Tests.{le-ltb, ltb-false}
 use Rattle.bitset.specs.Bits.{size}
 use Rattle.bitset.proofs.Sizes.{size-le}
+use Rattle.bitset.proofs.RunLaws.{words-room}
 use Rattle.syntax.specs.Reading.{Kb, Reading, refusal, kb}
 use Rattle.semantics.specs.Conditions.{dominoes, initial, canon, held}
 use Rattle.semantics.specs.Views.{kbView}
 use Rattle.domino.specs.Answers.{isShort, onSet, saysOnSet, judgeSays}
-use Rattle.domino.proofs.WordsEnough.{held-room}
 
 -- ---- the words lent
 
@@ -64,4 +64,4 @@ judge-forms (kb k) ws =
     let v = kbView k in
     let n = size (dominoes v) (canon v) in
     forms (isShort k ws) (size (dominoes v) (initial v)) n (length ws)
-    (λ q. omega (arith, ltb-false (length ws) (held v) q, size-le (dominoes v) (canon v), held-room v))
+    (λ q. omega (arith, ltb-false (length ws) (held v) q, size-le (dominoes v) (canon v), words-room (dominoes v)))

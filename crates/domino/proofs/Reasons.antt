@@ -10,7 +10,8 @@ use lib.Dec.{T, eqb, eqb→eq}
 use lib.ListN.{length, getD}
 use borrow.Author.Tests.{ne-eqb, not-true}
 use Rattle.bitset.specs.Bits.{Set, look, areWords}
-use Rattle.bitset.proofs.Facts.{either, T-of}
+use Rattle.bitset.proofs.Facts.{either, T-of, is-true, of-true}
+use Rattle.bitset.proofs.RunLaws.{words-room}
 use Rattle.elimination.specs.Calls.{runWith, strikeWords, settleWords, actWords}
 use Rattle.elimination.proofs.CallsOnWords.{after-initial}
 use Rattle.syntax.specs.Bounds.{All}
@@ -18,13 +19,12 @@ use Rattle.syntax.specs.Reading.{Kb, kb, readKb}
 use Rattle.syntax.specs.Answers.{limit}
 use Rattle.semantics.specs.Conditions.{View, order, FirstFails, dominoes, initial, lacks, defective, condition, conditionAt, defectAt, held}
 use Rattle.semantics.specs.Views.{kbView}
-use Rattle.semantics.proofs.Truths.{is-true, of-true}
 use Rattle.semantics.proofs.Defects.{defect-le, defect-first, first-defect, defect-passes, passes-defect, defect-later, defective-is, lacks-monotone}
 use Rattle.domino.specs.declared.Verdict.the-variants.{Absent, Struck, Kept}
 use Rattle.domino.specs.Answers.{verdictNumbers, verdictOf, openLeaves, strikeSays}
 use Rattle.domino.specs.Demanded.{StableWords, callsLeave}
 use Rattle.domino.specs.Reasons.{absent, struck, kept, Tells, failsSome, AsBefore, Resting}
-use Rattle.domino.proofs.WordsEnough.{held-room, open-leaves, strike-says, strike-beyond, strike-leaves, settle-leaves}
+use Rattle.domino.proofs.WordsEnough.{open-leaves, strike-says, strike-beyond, strike-leaves, settle-leaves}
 use Rattle.domino.proofs.Demand1.{opened-settled}
 use Rattle.domino.proofs.Demand3.{calls-leave, calls-leave-long}
 
@@ -185,7 +185,7 @@ resting-of k ws t h =
           let w = told k us (omega (arith, calls-leave-long k cs ws h)) n i e in
           let o : initial v n ≡ true =
           is-true (initial v n)
-          (after-initial (held v) (dominoes v) (initial v) (lacks v) (lacks-monotone v) (held-room v) cs ws t h n (w .0)
+          (after-initial (held v) (dominoes v) (initial v) (lacks v) (lacks-monotone v) (words-room (dominoes v)) cs ws t h n (w .0)
           (T-of (ap (λ (l : List ℕ). look l n) (calls-leave k cs ws h)) (of-true (w .1)))) in
           omega (arith, at-later v (look us) n o (λ q. omega (arith, w .2, w .3, q)), w .3);
     }

@@ -1,22 +1,21 @@
 -- What open, strike, settle and judge say and leave where the sheet is read and the words are enough, and stable sets of words.
 use mathlib.Core.Path.{_≡_, sym as flip}
-use mathlib.Core.Bool.{false, cond}
+use mathlib.Core.Bool.{cond}
 use mathlib.Core.List.{List, [], _∷_}
 use Prim.Native.Nat.{ℕ, _+_, _*_, _≤_, _<_}
 use native.Mathlib.Omega.{arith}
 use lib.Dec.{T, eqb, T-not, eqb→eq}
 use lib.ListN.{length}
 use lib.Pow.{pow-pos}
-use borrow.Author.Tests.{lt-ltb, le-ltb}
+use borrow.Author.Tests.{lt-ltb, le-ltb, eq-eqb}
 use Rattle.bitset.specs.Bits.{look, size}
-use Rattle.bitset.proofs.Facts.{either, T-of}
+use Rattle.bitset.proofs.Facts.{either, T-of, is-true, of-true}
 use Rattle.elimination.specs.Elimination.{isStable, settled}
 use Rattle.elimination.specs.Calls.{written, strikeWords, settleWords}
 use Rattle.elimination.proofs.Settling.{stable-at, stable-by}
 use Rattle.syntax.specs.Reading.{Kb, kb}
 use Rattle.semantics.specs.Conditions.{View, dominoes, initial, defective, defectAt, canon, held}
 use Rattle.semantics.specs.Views.{kbView}
-use Rattle.semantics.proofs.Truths.{is-true, of-true, eqb-true}
 use Rattle.semantics.proofs.Defects.{defective-is}
 use Rattle.domino.specs.Answers.{verdictNumbers, verdictOf, openSays, openLeaves, strikeSays, strikeLeaves, settleSays, settleLeaves, judgeSays, judgeLeaves}
 use Rattle.domino.specs.Demanded.{StableWords}
@@ -25,10 +24,6 @@ use Rattle.domino.proofs.OnSet.{says-enough, leaves-enough}
 -- ---- the words needed
 
 module _ (v : View) where
-  -- they have room for all dominoes
-  pub held-room : dominoes v ≤ 64 * held v
-  held-room = omega arith
-
   -- "but at least 1"
   pub held-some : 1 ≤ held v
   held-some = omega (arith, pow-pos (2 * v .parts + 2 * v .roles))
@@ -90,4 +85,4 @@ module _ (v : View) (ws : List ℕ) where
   words-stable r =
       stable-by (dominoes v) (defective v) (look ws)
       (λ n h t u. T-not (eqb (defectAt v (look ws) n) 0) (T-of (defective-is v (look ws) n) u)
-      (of-true (eqb-true (r n h (is-true (look ws n) t)))))
+      (of-true (eq-eqb _ _ (r n h (is-true (look ws n) t)))))

@@ -10,6 +10,7 @@ use lib.ListN.{length, drop}
 use borrow.Author.Tests.{ltb-false}
 use Rattle.bitset.specs.Bits.{look, word, wordAt, wordsFrom, cleared, size}
 use Rattle.bitset.proofs.Sizes.{size-same}
+use Rattle.bitset.proofs.RunLaws.{words-room}
 use Rattle.elimination.specs.Sets.{every, some}
 use Rattle.elimination.specs.Elimination.{settled}
 use Rattle.elimination.specs.Calls.{written}
@@ -32,7 +33,7 @@ use Rattle.semantics.specs.Views.{fillerIn, hasFiller, kbView}
 use Rattle.semantics.proofs.Defects.{defective-monotone}
 use Rattle.domino.specs.Answers.{isShort, onSet, saysOnSet, leavesOnSet, verdictNumbers, verdictOf, openSays, openLeaves, strikeSays, strikeLeaves, settleSays, judgeSays, judgeLeaves}
 use Rattle.domino.specs.Examples.{Row, row, answered, table, tried, strikes, needs}
-use Rattle.domino.proofs.WordsEnough.{held-room, open-says, open-leaves, settle-says, judge-says, judge-leaves}
+use Rattle.domino.proofs.WordsEnough.{open-says, open-leaves, settle-says, judge-says, judge-leaves}
 
 -- ---- what computes
 
@@ -78,7 +79,7 @@ module _ (k : Kb) (l : List ℕ) where
     canon-words =
         let v : View = kbView k in
         ap (λ (us : List ℕ). us ++ drop (held v) l)
-        (settledWords-is (held v) (dominoes v) (defective v) (held-room v) (defective-monotone v) (initial v))
+        (settledWords-is (held v) (dominoes v) (defective v) (words-room (dominoes v)) (defective-monotone v) (initial v))
         ∙ flip (judge-leaves k l h)
 
     canon-size : size (dominoes (kbView k)) (canon (kbView k)) ≡ size (dominoes (kbView k)) (look (canonWords (kbView k)))
@@ -86,7 +87,7 @@ module _ (k : Kb) (l : List ℕ) where
     canon-size =
         let v : View = kbView k in
         flip (size-same (dominoes v) (look (canonWords v)) (canon v)
-        (settledWords-same (held v) (dominoes v) (defective v) (held-room v) (defective-monotone v) (initial v)))
+        (settledWords-same (held v) (dominoes v) (defective v) (words-room (dominoes v)) (defective-monotone v) (initial v)))
 
     opened-size : settleSays (kb k) (openLeaves (kb k) l) ≡ 0 ∷ 0 ∷ size (dominoes (kbView k)) (canon (kbView k)) ∷ []
     unfolding canon
@@ -98,7 +99,7 @@ module _ (k : Kb) (l : List ℕ) where
         ∙ ap (λ (n : ℕ). 0 ∷ 0 ∷ n ∷ [])
         (size-same (dominoes v) (settled (dominoes v) (defective v) (look us)) (canon v)
         (settled-same (dominoes v) (defective v) (defective-monotone v) (look us) (initial v)
-        (written-look (held v) (dominoes v) (initial v) l (held-room v))))
+        (written-look (held v) (dominoes v) (initial v) l (words-room (dominoes v)))))
 
     view-row : (t r : List ℕ)
         → row t r l (openSays (kb k) l) (openLeaves (kb k) l) (settleSays (kb k) (openLeaves (kb k) l)) (judgeSays (kb k) l) (judgeLeaves (kb k) l)

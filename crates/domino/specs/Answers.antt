@@ -5,13 +5,12 @@ use mathlib.Core.Bool.{Bool, cond, _||_}
 use mathlib.Core.List.{List, [], _∷_}
 use lib.Dec.{eqb, ltb}
 use lib.ListN.{length}
-use Rattle.bitset.specs.Bits.{Set, look, size}
+use Rattle.bitset.specs.Bits.{Set, look, size, wordsFor}
 use Rattle.elimination.specs.Elimination.{settled}
 use Rattle.elimination.specs.Calls.{written, strikeWords, settleWords}
-use Rattle.tbox.specs.declared.base.Loaded.{Loaded}
 use Rattle.syntax.specs.Reading.{Kb, Reading, refusal, kb, readKb, isReadRefusal}
 use Rattle.syntax.specs.Answers.{limit}
-use Rattle.tbox.specs.Promise.{Flattened}
+use Rattle.semantics.specs.Dominoes.{total}
 use Rattle.semantics.specs.Conditions.{View, dominoes, initial, defective, defectAt, canon, held}
 use Rattle.semantics.specs.Views.{kbView}
 use Rattle.domino.specs.declared.OpenAnswer.{OpenAnswer}
@@ -128,11 +127,9 @@ pub record Judges (s : Reading) (before after : List ℕ) (r : JudgeAnswer) : Ty
 
 -- ---- the same for a view, and room enough
 
--- a sheet loaded for a call on a set of so many words: what every such call refuses with, or fault 0 and the knowledge base, for
--- which the words are enough. Free: the base of a refusal.
-pub record LoadsFor (sheet : List ℕ) (words : ℕ) (r : Loaded) : Type 0 where
-  pub refused : (r .fault ≡ 0 → ⊥) → onSet refusal kb (readKb limit sheet) words ≡ refusal (r .fault) (r .place)
-  pub read : r .fault ≡ 0 → (k : Kb) × (readKb limit sheet ≡ kb k) × (held (kbView k) ≤ words) × Flattened k (r .base)
+-- the refusal of a call on a set of so many words: the reader's, 10 if they are too few for c parts and l roles, or 0 for none
+abbrev pub faultOnSet : ℕ → ℕ → ℕ → ℕ → ℕ
+faultOnSet fault c l words = cond (eqb fault 0) (cond (ltb words (wordsFor (total c l))) 10 0) fault
 
 pub record StrikesSet (v : View) (n : ℕ) (before after : List ℕ) (r : Outcome) : Type 0 where
   pub number : r .number ≡ n

@@ -1,19 +1,18 @@
 // Domino sets in lent words: open, strike, settle and judge.
 ghost use mathlib.Core.Path.{_≡_};
-ghost use Prim.Native.Nat.{_<_};
+ghost use Prim.Native.Nat.{_+_, _<_, _≤_};
 ghost use lib.ListN.{length};
 ghost use Rattle.syntax.specs.Reading.{readKb};
 ghost use Rattle.syntax.specs.Answers.{limit};
 ghost use Rattle.semantics.specs.Dominoes.{total};
 ghost use Rattle.domino_conditions.specs.Tables.{view, Enough};
-ghost use Rattle.domino.specs.Answers.{LoadsFor, Opens, Strikes, Settles, Judges, StrikesSet};
+ghost use Rattle.domino.specs.Answers.{faultOnSet, Opens, Strikes, Settles, Judges, StrikesSet};
 use domino_conditions::conditions::defect;
 use domino_conditions::numbers::pow;
 use domino_conditions::numbers::words_for;
 use domino_initial::initial::open_set;
 use domino_settling::judging::judge_set;
 use domino_settling::settling::settle_set;
-use tbox::base::Loaded;
 use tbox::base::Parts;
 use tbox::base::ROLE_WORDS;
 
@@ -57,36 +56,31 @@ pub enum JudgeAnswer {
     Judged(u64, u64, bool),
 }
 
-// Loads a sheet for a call on a set of so many words, which 10 refuses if they are too few.
-fn load_for(sheet: &[u8], words: usize) -> Loaded
-    ensures { λ r. ⌜ LoadsFor (now (sheet .entry)) words r ⌝ }
+// The refusal of a call on a set of so many words: the reader's, 10 if they are too few for c parts and l roles, or 0 for none.
+fn fault_on_set(fault: u8, c: usize, l: usize, words: usize) -> u8
+    requires { ⌜ (fault ≡ 0 → c + l ≤ 12) ⌝ }
+    ensures { λ y. ⌜ y ≡ faultOnSet fault c l words ⌝ }
 {
-    let loaded = tbox::base::load(sheet);
-    if loaded.fault != 0 {
-        return loaded;
+    if fault != 0 {
+        return fault;
     }
-    let b = loaded.base;
-    let p = b.parts;
-    if words < words_for(p.count, p.roles) {
-        return Loaded {
-            fault: 10,
-            place: 0,
-            base: b,
-        };
+    if words < words_for(c, l) {
+        return 10;
     }
-    loaded
+    0
 }
 
 // Writes the initial set and answers its size.
 pub fn open(sheet: &[u8], set: &mut [u64]) -> OpenAnswer
     ensures { λ r. ⌜ Opens (readKb limit (now (sheet .entry))) (now (set .entry)) (now (set .exit)) r ⌝ }
 {
-    let loaded = load_for(sheet, set.len());
-    if loaded.fault != 0 {
-        return OpenAnswer::Refused(loaded.fault, loaded.place);
-    }
+    let loaded = tbox::base::load(sheet);
     let b = loaded.base;
     let p = b.parts;
+    let fault = fault_on_set(loaded.fault, p.count, p.roles, set.len());
+    if fault != 0 {
+        return OpenAnswer::Refused(fault, loaded.place);
+    }
     let role = b.role;
     let good = b.good;
     OpenAnswer::Opened(open_set(set, p, &role, &good))
@@ -96,12 +90,13 @@ pub fn open(sheet: &[u8], set: &mut [u64]) -> OpenAnswer
 pub fn strike(sheet: &[u8], set: &mut [u64], number: usize) -> StrikeAnswer
     ensures { λ r. ⌜ Strikes (readKb limit (now (sheet .entry))) number (now (set .entry)) (now (set .exit)) r ⌝ }
 {
-    let loaded = load_for(sheet, set.len());
-    if loaded.fault != 0 {
-        return StrikeAnswer::Refused(loaded.fault, loaded.place);
-    }
+    let loaded = tbox::base::load(sheet);
     let b = loaded.base;
     let p = b.parts;
+    let fault = fault_on_set(loaded.fault, p.count, p.roles, set.len());
+    if fault != 0 {
+        return StrikeAnswer::Refused(fault, loaded.place);
+    }
     if number >= pow(p.count + p.roles + p.count + p.roles) {
         return StrikeAnswer::Refused(11, 0);
     }
@@ -114,12 +109,13 @@ pub fn strike(sheet: &[u8], set: &mut [u64], number: usize) -> StrikeAnswer
 pub fn settle(sheet: &[u8], set: &mut [u64]) -> SettleAnswer
     ensures { λ r. ⌜ Settles (readKb limit (now (sheet .entry))) (now (set .entry)) (now (set .exit)) r ⌝ }
 {
-    let loaded = load_for(sheet, set.len());
-    if loaded.fault != 0 {
-        return SettleAnswer::Refused(loaded.fault, loaded.place);
-    }
+    let loaded = tbox::base::load(sheet);
     let b = loaded.base;
     let p = b.parts;
+    let fault = fault_on_set(loaded.fault, p.count, p.roles, set.len());
+    if fault != 0 {
+        return SettleAnswer::Refused(fault, loaded.place);
+    }
     let role = b.role;
     let good = b.good;
     SettleAnswer::Settled(settle_set(set, p, &role, &good))
@@ -129,12 +125,13 @@ pub fn settle(sheet: &[u8], set: &mut [u64]) -> SettleAnswer
 pub fn judge(sheet: &[u8], set: &mut [u64]) -> JudgeAnswer
     ensures { λ r. ⌜ Judges (readKb limit (now (sheet .entry))) (now (set .entry)) (now (set .exit)) r ⌝ }
 {
-    let loaded = load_for(sheet, set.len());
-    if loaded.fault != 0 {
-        return JudgeAnswer::Refused(loaded.fault, loaded.place);
-    }
+    let loaded = tbox::base::load(sheet);
     let b = loaded.base;
     let p = b.parts;
+    let fault = fault_on_set(loaded.fault, p.count, p.roles, set.len());
+    if fault != 0 {
+        return JudgeAnswer::Refused(fault, loaded.place);
+    }
     let role = b.role;
     let good = b.good;
     let j = judge_set(set, p, &role, &good);

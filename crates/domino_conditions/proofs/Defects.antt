@@ -12,7 +12,7 @@ use Rattle.semantics.specs.Conditions.{View, kb, ex, uni, witness, delex, delun
 use Rattle.semantics.proofs.Numbers.{domino-of}
 use Rattle.semantics.proofs.Defects.{defect-cases}
 use Rattle.domino_conditions.specs.Tables.{view, Room, Row}
-use Rattle.domino_conditions.specs.Polarity.{asks, breaks, fits, wants, found, witnessed, rowDefect}
+use Rattle.domino_conditions.specs.Polarity.{asksOfRight, breaks, rightFits, wantsWitness, hasWitness, witnessed, rowDefect}
 use Rattle.tbox.specs.declared.base.Parts.{Parts}
 use Rattle.domino_conditions.proofs.Rows.{At, few-sets, few-labels, converse-of, converse-room, row-fit}
 use Rattle.domino_conditions.proofs.Polarity.{fits-ex, fits-uni, witnessed-delex, witnessed-deluni}
@@ -31,7 +31,7 @@ first-is true true true true false m = refl
 first-is true true true true true m = refl
 
 defect-is : (v : View) (S : Set) (n a r b : ℕ) → At (v .parts) (v .roles) n a r b
-    → firstOf (v .good a) (fits v true a r b) (fits v false a r b) (rowDefect v (numbered (v .parts) (v .roles) S) a)
+    → firstOf (v .good a) (rightFits v true a r b) (rightFits v false a r b) (rowDefect v (numbered (v .parts) (v .roles) S) a)
     (S (number (v .parts) (v .roles) b (inverse (v .roles) r) a)) ≡ defectAt v S n
 unfolding defectAt kb sym rowDefect numbered
 defect-is v S n a r b t =
@@ -53,10 +53,10 @@ at-of c l n a r b e f g = record { left = flip e; roles = flip f; right = flip g
 
 module _ (p : Parts) (role good : List ℕ) (S : Set) (n a r b : ℕ) (t : At (p .count) (p .roles) n a r b) where
   -- the tests but for the first do not look at the good labels
-  tested : firstOf (look good a) (fits (view p role []) true a r b) (fits (view p role []) false a r b)
+  tested : firstOf (look good a) (rightFits (view p role []) true a r b) (rightFits (view p role []) false a r b)
       (rowDefect (view p role []) (numbered (p .count) (p .roles) S) a) (S (number (p .count) (p .roles) b (inverse (p .roles) r) a))
       ≡ defectAt (view p role good) S n
-  unfolding fits breaks asks rowDefect witnessed wants found witness
+  unfolding rightFits breaks asksOfRight rowDefect witnessed wantsWitness hasWitness witness
   tested = defect-is (view p role good) S n a r b t
 
   -- g, e and u are the answers of the tests 1 to 3, d that of the tests 4 and 5, y that of test 6
@@ -64,14 +64,14 @@ module _ (p : Parts) (role good : List ℕ) (S : Set) (n a r b : ℕ) (t : At (p
   fails-1 g h k = rw (← tested, ← h, not-true g k)
 
   module _ (g : Bool) (hg : g ≡ look good a) (kg : not g ≡ false) where
-    pub fails-2 : (e : Bool) → e ≡ fits (view p role []) true a r b → not e ≡ true → 2 ≡ defectAt (view p role good) S n
+    pub fails-2 : (e : Bool) → e ≡ rightFits (view p role []) true a r b → not e ≡ true → 2 ≡ defectAt (view p role good) S n
     fails-2 e h k = rw (← tested, ← hg, not-false g kg, ← h, not-true e k)
 
-    module _ (e : Bool) (he : e ≡ fits (view p role []) true a r b) (ke : not e ≡ false) where
-      pub fails-3 : (u : Bool) → u ≡ fits (view p role []) false a r b → not u ≡ true → 3 ≡ defectAt (view p role good) S n
+    module _ (e : Bool) (he : e ≡ rightFits (view p role []) true a r b) (ke : not e ≡ false) where
+      pub fails-3 : (u : Bool) → u ≡ rightFits (view p role []) false a r b → not u ≡ true → 3 ≡ defectAt (view p role good) S n
       fails-3 u h k = rw (← tested, ← hg, not-false g kg, ← he, not-false e ke, ← h, not-true u k)
 
-      module _ (u : Bool) (hu : u ≡ fits (view p role []) false a r b) (ku : not u ≡ false) where
+      module _ (u : Bool) (hu : u ≡ rightFits (view p role []) false a r b) (ku : not u ≡ false) where
         first : (d : ℕ) → d ≡ rowDefect (view p role []) (numbered (p .count) (p .roles) S) a
             → cond (eqb d 0) (cond (S (number (p .count) (p .roles) b (inverse (p .roles) r) a)) 0 6) d ≡ defectAt (view p role good) S n
         first d h = rw (← tested, ← hg, not-false g kg, ← he, not-false e ke, ← hu, not-false u ku, ← h)

@@ -8,13 +8,12 @@ use lib.Dec.{eqb}
 use borrow.Author.Tests.{eq-eqb, ne-eqb}
 use Rattle.bitset.specs.Bits.{bit}
 use Rattle.elimination.specs.Sets.{every}
+use Rattle.elimination.proofs.Quantifiers.{all-same, every-none, every-more, every-fails}
 use Rattle.semantics.specs.Dominoes.{Dominoes}
 use Rattle.semantics.specs.Conditions.{View, ex, uni, witness, delex, deluni}
-use Rattle.semantics.proofs.Truths.{all-same}
 use Rattle.domino_conditions.specs.Tables.{view}
 use Rattle.tbox.specs.declared.base.Parts.{Parts}
-use Rattle.domino_conditions.specs.Polarity.{is, kindFor, asks, breaks, fits, wants, found, witnessed, rowDefect}
-use Rattle.domino_conditions.proofs.Quantifiers.{every-none, every-more, every-fails}
+use Rattle.domino_conditions.specs.Polarity.{asWanted, kindFor, asksOfRight, breaks, rightFits, wantsWitness, hasWitness, witnessed, rowDefect}
 
 -- ---- the conditions
 
@@ -42,60 +41,60 @@ want-one true false = refl
 want-one false w = refl
 
 module _ (v : View) where
-  pub fits-ex : (A R B : ℕ) → fits v true A R B ≡ ex v A R B
-  unfolding fits breaks asks ex
+  pub fits-ex : (A R B : ℕ) → rightFits v true A R B ≡ ex v A R B
+  unfolding rightFits breaks asksOfRight ex
   fits-ex A R B = all-same (v .parts) _ _ (λ k h. ex-one (eqb (v .kind k) 2) (bit A k) (v .holds k R) (v .has k B))
 
-  pub fits-uni : (A R B : ℕ) → fits v false A R B ≡ uni v A R B
-  unfolding fits breaks asks uni
+  pub fits-uni : (A R B : ℕ) → rightFits v false A R B ≡ uni v A R B
+  unfolding rightFits breaks asksOfRight uni
   fits-uni A R B = all-same (v .parts) _ _ (λ k h. uni-one (eqb (v .kind k) 3) (bit A k) (v .holds k R) (v .has k B))
 
   pub witnessed-delex : (D : Dominoes) (A : ℕ) → witnessed v true D A ≡ delex v D A
-  unfolding witnessed wants found delex
+  unfolding witnessed wantsWitness hasWitness delex
   witnessed-delex D A = all-same (v .parts) _ _ (λ k h. want-one (eqb (v .kind k) 2 && bit A k) (witness v D A k (v .has k)))
 
   pub witnessed-deluni : (D : Dominoes) (A : ℕ) → witnessed v false D A ≡ deluni v D A
-  unfolding witnessed wants found deluni
+  unfolding witnessed wantsWitness hasWitness deluni
   witnessed-deluni D A =
       all-same (v .parts) _ _ (λ k h. want-one (eqb (v .kind k) 3 && not (bit A k)) (witness v D A k (λ B. not (v .has k B))))
 
 -- ---- one part's share
 
 module _ (v : View) (w : Bool) (A k : ℕ) where
-  pub wants-other : (q : ℕ) → q ≡ kindFor w → (v .kind k ≡ q → ⊥) → false ≡ wants v w A k
-  unfolding wants
+  pub wants-other : (q : ℕ) → q ≡ kindFor w → (v .kind k ≡ q → ⊥) → false ≡ wantsWitness v w A k
+  unfolding wantsWitness
   wants-other q e n = rw (← e, ne-eqb (v .kind k) q n)
 
-  pub wants-kind : (q : ℕ) (x y : Bool) → q ≡ kindFor w → v .kind k ≡ q → x ≡ bit A k → y ≡ is w x → y ≡ wants v w A k
-  unfolding wants
-  wants-kind q x y e n f g = rw (← e, eq-eqb (v .kind k) q n) (g ∙ ap (is w) f)
+  pub wants-kind : (q : ℕ) (x y : Bool) → q ≡ kindFor w → v .kind k ≡ q → x ≡ bit A k → y ≡ asWanted w x → y ≡ wantsWitness v w A k
+  unfolding wantsWitness
+  wants-kind q x y e n f g = rw (← e, eq-eqb (v .kind k) q n) (g ∙ ap (asWanted w) f)
 
   module _ (R : ℕ) where
-    pub asks-other : (q : ℕ) → q ≡ kindFor w → (v .kind k ≡ q → ⊥) → false ≡ asks v w A R k
-    unfolding asks
+    pub asks-other : (q : ℕ) → q ≡ kindFor w → (v .kind k ≡ q → ⊥) → false ≡ asksOfRight v w A R k
+    unfolding asksOfRight
     asks-other q e n = rw (← e, ne-eqb (v .kind k) q n)
 
     -- in the label, or out, as it is wanted
-    pub asks-in : (x y : Bool) → x ≡ bit A k → y ≡ is w x → y ≡ true → false ≡ asks v w A R k
-    unfolding asks
+    pub asks-in : (x y : Bool) → x ≡ bit A k → y ≡ asWanted w x → y ≡ true → false ≡ asksOfRight v w A R k
+    unfolding asksOfRight
     asks-in x y f g h =
-        let e : is w (bit A k) ≡ true = flip (ap (is w) f) ∙ flip g ∙ h in
+        let e : asWanted w (bit A k) ≡ true = flip (ap (asWanted w) f) ∙ flip g ∙ h in
         rw e (flip (and-false (eqb (v .kind k) (kindFor w))))
 
-    pub asks-last : (q : ℕ) (x y z : Bool) → q ≡ kindFor w → v .kind k ≡ q → x ≡ bit A k → y ≡ is w x → y ≡ false → z ≡ v .holds k R
-        → z ≡ asks v w A R k
-    unfolding asks
+    pub asks-last : (q : ℕ) (x y z : Bool) → q ≡ kindFor w → v .kind k ≡ q → x ≡ bit A k → y ≡ asWanted w x → y ≡ false → z ≡ v .holds k R
+        → z ≡ asksOfRight v w A R k
+    unfolding asksOfRight
     asks-last q x y z e n f g h i =
-        let s : is w (bit A k) ≡ false = flip (ap (is w) f) ∙ flip g ∙ h in
+        let s : asWanted w (bit A k) ≡ false = flip (ap (asWanted w) f) ∙ flip g ∙ h in
         rw (← e, eq-eqb (v .kind k) q n, s) i
 
-    pub breaks-none : (B : ℕ) (y : Bool) → y ≡ asks v w A R k → y ≡ false → false ≡ breaks v w A R B k
+    pub breaks-none : (B : ℕ) (y : Bool) → y ≡ asksOfRight v w A R k → y ≡ false → false ≡ breaks v w A R B k
     unfolding breaks
     breaks-none B y e h = rw (← e, h)
 
-    pub breaks-last : (B : ℕ) (y x z : Bool) → y ≡ asks v w A R k → y ≡ true → x ≡ v .has k B → z ≡ is w x → z ≡ breaks v w A R B k
+    pub breaks-last : (B : ℕ) (y x z : Bool) → y ≡ asksOfRight v w A R k → y ≡ true → x ≡ v .has k B → z ≡ asWanted w x → z ≡ breaks v w A R B k
     unfolding breaks
-    breaks-last B y x z e h l m = rw (← e, h) (m ∙ ap (is w) l)
+    breaks-last B y x z e h l m = rw (← e, h) (m ∙ ap (asWanted w) l)
 
 -- ---- all parts, one after another
 
@@ -110,12 +109,12 @@ module _ (v : View) (w : Bool) (A R B : ℕ) where
   pub fits-more : (k : ℕ) (y : Bool) → FitsTo k → y ≡ breaks v w A R B k → y ≡ false → FitsTo (k + 1)
   fits-more k y p e h = every-more (λ j. not (breaks v w A R B j)) k p (ap not (flip e ∙ h))
 
-  pub fits-stop : (k : ℕ) (y : Bool) → k < v .parts → y ≡ breaks v w A R B k → y ≡ true → false ≡ fits v w A R B
-  unfolding fits
+  pub fits-stop : (k : ℕ) (y : Bool) → k < v .parts → y ≡ breaks v w A R B k → y ≡ true → false ≡ rightFits v w A R B
+  unfolding rightFits
   fits-stop k y l e h = flip (every-fails (λ j. not (breaks v w A R B j)) (v .parts) k l (ap not (flip e ∙ h)))
 
-  pub fits-end : (k : ℕ) → k ≤ v .parts → v .parts ≤ k → FitsTo k → true ≡ fits v w A R B
-  unfolding fits
+  pub fits-end : (k : ℕ) → k ≤ v .parts → v .parts ≤ k → FitsTo k → true ≡ rightFits v w A R B
+  unfolding rightFits
   fits-end k l m p =
       let e : k ≡ v .parts = omega arith in
       flip (subst (λ (n : ℕ). every n (λ j. not (breaks v w A R B j)) ≡ true) e p)
@@ -123,10 +122,10 @@ module _ (v : View) (w : Bool) (A R B : ℕ) where
 -- ---- conditions 2 to 5 do not look at the good labels
 
 module _ (p : Parts) (role good : List ℕ) where
-  pub fits-good : (w : Bool) (A R B : ℕ) → fits (view p role []) w A R B ≡ fits (view p role good) w A R B
-  unfolding fits breaks asks
+  pub fits-good : (w : Bool) (A R B : ℕ) → rightFits (view p role []) w A R B ≡ rightFits (view p role good) w A R B
+  unfolding rightFits breaks asksOfRight
   fits-good w A R B = refl
 
   pub row-good : (D : Dominoes) (A : ℕ) → rowDefect (view p role []) D A ≡ rowDefect (view p role good) D A
-  unfolding rowDefect witnessed wants found witness
+  unfolding rowDefect witnessed wantsWitness hasWitness witness
   row-good D A = refl

@@ -8,9 +8,9 @@ use Rattle.elimination.specs.Sets.{every}
 use Rattle.semantics.specs.Dominoes.{Dominoes}
 use Rattle.semantics.specs.Conditions.{View, witness}
 
-abbrev pub is : Bool → Bool → Bool
-is true b = b
-is false b = not b
+abbrev pub asWanted : Bool → Bool → Bool
+asWanted true b = b
+asWanted false b = not b
 
 abbrev pub kindFor : Bool → ℕ
 kindFor true = 2
@@ -18,27 +18,27 @@ kindFor false = 3
 
 module _ (v : View) (w : Bool) where
   -- does part k ask something of the right label of (A, R, _)
-  unfoldable pub asks : ℕ → ℕ → ℕ → Bool
-  asks A R k = eqb (v .kind k) (kindFor w) && (not (is w (bit A k)) && v .holds k R)
+  unfoldable pub asksOfRight : ℕ → ℕ → ℕ → Bool
+  asksOfRight A R k = eqb (v .kind k) (kindFor w) && (not (asWanted w (bit A k)) && v .holds k R)
 
   -- does the domino (A, R, B) break what part k asks
   unfoldable pub breaks : ℕ → ℕ → ℕ → ℕ → Bool
-  breaks A R B k = asks A R k && is w (v .has k B)
+  breaks A R B k = asksOfRight A R k && asWanted w (v .has k B)
 
   -- condition 2 (true), 3 (false)
-  unfoldable pub fits : ℕ → ℕ → ℕ → Bool
-  fits A R B = every (v .parts) (λ k. not (breaks A R B k))
+  unfoldable pub rightFits : ℕ → ℕ → ℕ → Bool
+  rightFits A R B = every (v .parts) (λ k. not (breaks A R B k))
 
   -- does the label A want a witness for part k; has it one
-  unfoldable pub wants : ℕ → ℕ → Bool
-  wants A k = eqb (v .kind k) (kindFor w) && is w (bit A k)
+  unfoldable pub wantsWitness : ℕ → ℕ → Bool
+  wantsWitness A k = eqb (v .kind k) (kindFor w) && asWanted w (bit A k)
 
-  unfoldable pub found : Dominoes → ℕ → ℕ → Bool
-  found D A k = witness v D A k (λ B. is w (v .has k B))
+  unfoldable pub hasWitness : Dominoes → ℕ → ℕ → Bool
+  hasWitness D A k = witness v D A k (λ B. asWanted w (v .has k B))
 
   -- condition 4 (true), 5 (false)
   unfoldable pub witnessed : Dominoes → ℕ → Bool
-  witnessed D A = every (v .parts) (λ k. not (wants A k && not (found D A k)))
+  witnessed D A = every (v .parts) (λ k. not (wantsWitness A k && not (hasWitness D A k)))
 
 -- the first of the conditions 4 and 5 that a left label fails; 0 for none
 unfoldable pub rowDefect : View → Dominoes → ℕ → ℕ

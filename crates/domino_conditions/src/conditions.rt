@@ -4,12 +4,12 @@ ghost use mathlib.Core.Path.{_≡_};
 ghost use mathlib.Core.Bool.{true, false, not, _&&_};
 ghost use mathlib.Core.List.{[]};
 ghost use Prim.Native.Nat.{_+_, _*_, _/_, _%_, _<_};
-ghost use lib.ListN.{length};
+ghost use lib.ListN.{length, getD};
 ghost use Rattle.bitset.specs.Bits.{bit, look};
 ghost use Rattle.semantics.specs.Dominoes.{total, number, numbered};
-ghost use Rattle.semantics.specs.Conditions.{defectAt};
-ghost use Rattle.domino_conditions.specs.Tables.{inLabel, view, Sized, Room, Row};
-ghost use Rattle.domino_conditions.specs.Polarity.{is, kindFor, asks, breaks, fits, wants, found, witnessed, rowDefect};
+ghost use Rattle.semantics.specs.Conditions.{View, defectAt};
+ghost use Rattle.domino_conditions.specs.Tables.{fillerInLabel, roleHoldsOn, view, searchView, Sized, Room, RowOf, Row};
+ghost use Rattle.domino_conditions.specs.Polarity.{asWanted, kindFor, asksOfRight, rightFits, wantsWitness, hasWitness, witnessed, rowDefect};
 use crate::numbers::index;
 use crate::numbers::inverse;
 use crate::numbers::left_of;
@@ -21,8 +21,8 @@ use tbox::base::Parts;
 use tbox::base::ROLE_WORDS;
 
 // Is the filler f in the label b?
-fn has(f: u16, b: usize) -> bool
-    ensures { λ y. ⌜ y ≡ inLabel f b ⌝ }
+fn filler_in_label(f: u16, b: usize) -> bool
+    ensures { λ y. ⌜ y ≡ fillerInLabel f b ⌝ }
 {
     if f < 64 {
         return (b >> f) % 2 == 1;
@@ -31,16 +31,16 @@ fn has(f: u16, b: usize) -> bool
 }
 
 // Does the role of part k hold on the role set r?
-fn holds(role: &[u64; ROLE_WORDS], k: usize, r: usize) -> bool
+fn role_holds_on(role: &[u64; ROLE_WORDS], k: usize, r: usize) -> bool
     requires { ⌜ (k < 20) × (r < 256) ⌝ }
-    ensures { λ y. ⌜ ((p : Parts) → y ≡ view p (now (role .entry)) [] .holds k r) ⌝ }
+    ensures { λ y. ⌜ y ≡ roleHoldsOn (now (role .entry)) k r ⌝ }
 {
     let i = (k << 2) + r / 64;
     (role[i] >> (r % 64)) % 2 == 1
 }
 
-pub fn wanted(want: bool, x: bool) -> bool
-    ensures { λ y. ⌜ y ≡ is want x ⌝ }
+pub fn as_wanted(want: bool, x: bool) -> bool
+    ensures { λ y. ⌜ y ≡ asWanted want x ⌝ }
 {
     if want { x } else { !x }
 }
@@ -51,7 +51,7 @@ fn kind_for(want: bool) -> u8
     if want { 2 } else { 3 }
 }
 
-fn in_label(a: usize, k: usize) -> bool
+fn part_in_label(a: usize, k: usize) -> bool
     requires { ⌜ k < 64 ⌝ }
     ensures { λ y. ⌜ y ≡ bit a k ⌝ }
 {
@@ -68,29 +68,35 @@ pub fn is_good(good: &[u64; 64], a: usize) -> bool
 }
 
 // Is the domino of the run from `at` on with right label b in the set, and has b the filler, or lacks it, as is wanted?
-fn goes_at(set: &[u64], f: u16, want: bool, at: usize, b: usize) -> bool
+fn is_witness(set: &[u64], f: u16, want: bool, at: usize, b: usize) -> bool
     requires { ⌜ (at + b < 64 * length (now set)) × (at + b < 16777216) ⌝ }
-    ensures { λ y. ⌜ y ≡ (is want (inLabel f b) && look (now (set .entry)) (at + b)) ⌝ }
+    ensures { λ y. ⌜ y ≡ (asWanted want (fillerInLabel f b) && look (now (set .entry)) (at + b)) ⌝ }
 {
-    wanted(want, has(f, b)) && bitset::member(set, at + b)
+    as_wanted(want, filler_in_label(f, b)) && bitset::member(set, at + b)
 }
 
-// Has part k a witness in the row a? The search stops at the first one found.
-fn witness(set: &[u64], p: Parts, role: &[u64; ROLE_WORDS], a: usize, k: usize, want: bool) -> bool
-    requires { ⌜ Row p a (length (now set)) × (k < 20) ⌝ }
-    ensures { λ y. ⌜ y ≡ found (view p (now (role .entry)) []) want (numbered (p .count) (p .roles) (look (now (set .entry)))) a k ⌝ }
+// Has part k, with the filler f, a witness in the row a? The search stops at the first one found.
+fn has_witness(
+    set: &[u64],
+    c: usize,
+    l: usize,
+    role: &[u64; ROLE_WORDS],
+    a: usize,
+    k: usize,
+    f: u16,
+    want: bool,
+) -> bool
+    requires { ⌜ RowOf c l a (length (now set)) × (k < 20) ⌝ }
+    ensures { λ y. ⌜ y ≡ hasWitness (searchView c l (now (role .entry)) f) want (numbered c l (look (now (set .entry)))) a k ⌝ }
 {
-    let c = p.count;
-    let l = p.roles;
-    let f = p.filler[k];
     let sets = pow(l + l);
     let labels = pow(c);
     let mut found = false;
     'search: for r in 0..sets {
-        if holds(role, k, r) {
+        if role_holds_on(role, k, r) {
             let at = index(c, l, a, r, 0);
             for b in 0..labels {
-                if goes_at(set, f, want, at, b) {
+                if is_witness(set, f, want, at, b) {
                     found = true;
                     break 'search;
                 }
@@ -100,15 +106,15 @@ fn witness(set: &[u64], p: Parts, role: &[u64; ROLE_WORDS], a: usize, k: usize, 
     found
 }
 
-// Does the label a want a witness for part k?
-fn wants(p: Parts, a: usize, k: usize, want: bool) -> bool
+// Does the label a want a witness for part k, of the given kind?
+fn wants_witness(kind: u8, a: usize, k: usize, want: bool) -> bool
     requires { ⌜ k < 20 ⌝ }
-    ensures { λ y. ⌜ y ≡ wants (view p [] []) want a k ⌝ }
+    ensures { λ y. ⌜ ((v : View) → v .kind k ≡ kind → y ≡ wantsWitness v want a k) ⌝ }
 {
-    if p.kind[k] != kind_for(want) {
+    if kind != kind_for(want) {
         return false;
     }
-    wanted(want, in_label(a, k))
+    as_wanted(want, part_in_label(a, k))
 }
 
 // Conditions 4 (want) and 5 (not want) of the left label a: each part that wants a witness has one.
@@ -118,8 +124,10 @@ fn witnessed(set: &[u64], p: Parts, role: &[u64; ROLE_WORDS], a: usize, want: bo
 {
     let c = p.count;
     for k in 0..c {
-        if wants(p, a, k, want) {
-            if !witness(set, p, role, a, k, want) {
+        let kind = p.kind[k];
+        if wants_witness(kind, a, k, want) {
+            let f = p.filler[k];
+            if !has_witness(set, c, p.roles, role, a, k, f, want) {
                 return false;
             }
         }
@@ -141,49 +149,40 @@ pub fn row_defect(set: &[u64], p: Parts, role: &[u64; ROLE_WORDS], a: usize) -> 
     0
 }
 
-// Does part k ask something of the right label of (a, r, _)?
-pub fn asks(p: Parts, role: &[u64; ROLE_WORDS], a: usize, r: usize, k: usize, want: bool) -> bool
-    requires { ⌜ (k < 20) × (r < 256) ⌝ }
-    ensures { λ y. ⌜ y ≡ asks (view p (now (role .entry)) []) want a r k ⌝ }
-{
-    if p.kind[k] != kind_for(want) {
-        return false;
-    }
-    if wanted(want, in_label(a, k)) {
-        return false;
-    }
-    holds(role, k, r)
-}
-
-// Does the domino (a, r, b) break what part k asks?
-fn breaks(
-    p: Parts,
+// Does part k, of the given kind, ask something of the right label of (a, r, _)?
+pub fn asks_of_right(
+    kind: u8,
     role: &[u64; ROLE_WORDS],
     a: usize,
     r: usize,
-    b: usize,
     k: usize,
     want: bool,
 ) -> bool
     requires { ⌜ (k < 20) × (r < 256) ⌝ }
-    ensures { λ y. ⌜ y ≡ breaks (view p (now (role .entry)) []) want a r b k ⌝ }
+    ensures { λ y. ⌜ ((p : Parts) → getD (p .kind) k 0 ≡ kind → y ≡ asksOfRight (view p (now (role .entry)) []) want a r k) ⌝ }
 {
-    if asks(p, role, a, r, k, want) {
-        let f = p.filler[k];
-        return wanted(want, has(f, b));
+    if kind != kind_for(want) {
+        return false;
     }
-    false
+    if as_wanted(want, part_in_label(a, k)) {
+        return false;
+    }
+    role_holds_on(role, k, r)
 }
 
-// Conditions 2 (want) and 3 (not want) of the domino (a, r, b).
-fn fits(p: Parts, role: &[u64; ROLE_WORDS], a: usize, r: usize, b: usize, want: bool) -> bool
+// Conditions 2 (want) and 3 (not want) of the domino (a, r, b): it breaks nothing that a part asks.
+fn right_fits(p: Parts, role: &[u64; ROLE_WORDS], a: usize, r: usize, b: usize, want: bool) -> bool
     requires { ⌜ Sized p × (r < 256) ⌝ }
-    ensures { λ y. ⌜ y ≡ fits (view p (now (role .entry)) []) want a r b ⌝ }
+    ensures { λ y. ⌜ y ≡ rightFits (view p (now (role .entry)) []) want a r b ⌝ }
 {
     let c = p.count;
     for k in 0..c {
-        if breaks(p, role, a, r, b, k, want) {
-            return false;
+        let kind = p.kind[k];
+        if asks_of_right(kind, role, a, r, k, want) {
+            let f = p.filler[k];
+            if as_wanted(want, filler_in_label(f, b)) {
+                return false;
+            }
         }
     }
     true
@@ -202,10 +201,10 @@ pub fn defect(set: &[u64], p: Parts, role: &[u64; ROLE_WORDS], good: &[u64; 64],
     if !is_good(good, a) {
         return 1;
     }
-    if !fits(p, role, a, r, b, true) {
+    if !right_fits(p, role, a, r, b, true) {
         return 2;
     }
-    if !fits(p, role, a, r, b, false) {
+    if !right_fits(p, role, a, r, b, false) {
         return 3;
     }
     let d = row_defect(set, p, role, a);

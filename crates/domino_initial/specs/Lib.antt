@@ -1,5 +1,5 @@
 -- What functions tell each other:
---   Demands  what a left label and a role set ask of the right label, as masks
---   Opening  what opening leaves and answers; what its steps keep
-pub mod Demands
+--   RightMasks  what a left label and a role set ask of the right label, as masks
+--   Opening     what opening leaves and answers; what its steps keep
+pub mod RightMasks
 pub mod Opening

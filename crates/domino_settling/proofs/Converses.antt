@@ -10,14 +10,13 @@ use lib.Dec.{T, T-not, not-T}
 use lib.ListN.{length, getD}
 use Rattle.bitset.specs.Bits.{Set, look, cleared}
 use Rattle.bitset.specs.Runs.{Empty}
-use Rattle.bitset.proofs.Facts.{and-right, T-of, or-right}
+use Rattle.bitset.proofs.Facts.{and-right, T-of, or-right, is-true, of-true}
 use Rattle.bitset.proofs.Words.{length-cleared}
 use Rattle.bitset.proofs.RunLaws.{stretch-empty}
 use Rattle.semantics.specs.Dominoes.{Dominoes, total, number, leftOf, rolesOf, rightOf, inverse, numbered}
 use Rattle.semantics.specs.Conditions.{View, delex, deluni, sym, sustained, dominoes, initial, lacks, defective}
 use Rattle.semantics.proofs.Numbers.{inverse-lt}
-use Rattle.semantics.proofs.Truths.{is-true, of-true}
-use Rattle.domino_conditions.specs.Tables.{Fits}
+use Rattle.domino_conditions.specs.Tables.{RowOf}
 use Rattle.domino_settling.specs.Sweeps.{unmatched, Passed}
 use Rattle.domino_conditions.proofs.Rows.{total-le, next-run, run-le, at-place}
 use Rattle.domino_initial.proofs.Dropping.{labels-words}
@@ -38,14 +37,14 @@ pub unmatched-defective : (v : View) (S : Set) (n : ℕ) → T (unmatched v S n)
 unmatched-defective v S n t = or-right (not (initial v n)) (lacks v S n) (unmatched-lacks v S n t)
 
 -- a place of a run is in the words
-pub run-place : (c l a words at b w : ℕ) → Fits c l a words → b < 2 ^ c → at + 2 ^ c ≤ total c l → w ≡ words → ((at + b) / 64 < w) × (at + b < 16777216)
+pub run-place : (c l a words at b w : ℕ) → RowOf c l a words → b < 2 ^ c → at + 2 ^ c ≤ total c l → w ≡ words → ((at + b) / 64 < w) × (at + b < 16777216)
 run-place c l a words at b w f h k e =
     let t = total-le c l (f .within) in
     let o = f .room in
     (omega arith, omega arith)
 
 -- and so is a word of it
-pub word-place : (c l a words at i count w : ℕ) → Fits c l a words → 6 ≤ c → at + 2 ^ c ≤ total c l → count ≡ 2 ^ (c - 6) → i < count → w ≡ words
+pub word-place : (c l a words at i count w : ℕ) → RowOf c l a words → 6 ≤ c → at + 2 ^ c ≤ total c l → count ≡ 2 ^ (c - 6) → i < count → w ≡ words
     → (at / 64 + i < w) × (64 * i + 64 ≤ 2 ^ c) × (at + 2 ^ c ≤ 16777216)
 word-place c l a words at i count w f six k e h g =
     let t = total-le c l (f .within) in
@@ -54,7 +53,7 @@ word-place c l a words at i count w f six k e h g =
     (omega arith, omega arith, omega arith)
 
 -- what is asked to match a run
-pub run-asks : (c l a words r at back : ℕ) → Fits c l a words → r < 2 ^ (2 * l) → at ≡ number c l a r 0 → back ≡ inverse l r
+pub run-asks : (c l a words r at back : ℕ) → RowOf c l a words → r < 2 ^ (2 * l) → at ≡ number c l a r 0 → back ≡ inverse l r
     → (back < 2 ^ (2 * l)) × (at + 2 ^ c ≤ total c l)
 run-asks c l a words r at back f h e g = (
   rw g (inverse-lt l r),
@@ -85,7 +84,7 @@ module _ (c l a back at : ℕ) where
   pub run-none : (x : ℕ) (ws : List ℕ) → RunMatched x x ws ws false
   run-none x ws = record { long = refl; passed = λ v r p q h e f. pass-none v (unmatched v) x ws }
 
-  module _ (words : ℕ) (fit : Fits c l a words) (b : ℕ) (lb : b < 2 ^ c) where
+  module _ (words : ℕ) (fit : RowOf c l a words) (b : ℕ) (lb : b < 2 ^ c) where
     unmatched-is : (v : View) (r : ℕ) → v .parts ≡ c → v .roles ≡ l → r < 2 ^ (2 * l) → at ≡ number c l a r 0 → back ≡ inverse l r
         → (S : Set) → unmatched v S (at + b) ≡ not (S (number c l b back a))
     unfolding unmatched sym numbered

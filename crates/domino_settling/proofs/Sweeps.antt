@@ -9,7 +9,7 @@ use lib.Dec.{T, T-not, not-T}
 use lib.ListN.{length}
 use Rattle.bitset.specs.Bits.{Set, look, size, areWords}
 use Rattle.bitset.specs.Runs.{Emptied, Empty}
-use Rattle.bitset.proofs.Facts.{and-left, T-of, and-out, or-cases, or-right}
+use Rattle.bitset.proofs.Facts.{and-left, T-of, and-out, or-cases, or-right, is-true, of-true, and-l}
 use Rattle.bitset.proofs.Sizes.{size-strict}
 use Rattle.bitset.proofs.RunLaws.{in-or-out}
 use Rattle.elimination.specs.Sets.{Sub}
@@ -17,7 +17,6 @@ use Rattle.elimination.specs.Elimination.{Within}
 use Rattle.elimination.proofs.Settling.{stable-by, within-start, within-less, within-trans, within-stable}
 use Rattle.semantics.specs.Dominoes.{Dominoes, number, leftOf, rolesOf, rightOf, numbered}
 use Rattle.semantics.specs.Conditions.{View, kb, delex, deluni, sym, initially, sustained, dominoes, initial, lacks, defective}
-use Rattle.semantics.proofs.Truths.{is-true, of-true, and-l}
 use Rattle.semantics.proofs.Defects.{defective-monotone}
 use Rattle.domino_conditions.specs.Polarity.{rowDefect}
 use Rattle.domino_settling.specs.Sweeps.{unmatched, Passed, Swept}
@@ -27,20 +26,20 @@ use Rattle.domino_settling.proofs.Passed.{pass-idle, pass-empty, pass-a
 
 -- ---- the witnesses of a row
 
-abbrev firstOf : Bool → Bool → ℕ
-firstOf d u = cond d (cond u 0 5) 4
+abbrev rowFirst : Bool → Bool → ℕ
+rowFirst d u = cond d (cond u 0 5) 4
 
-first-four : (d u s : Bool) → (firstOf d u ≡ 0 → ⊥) → T (not (d && (u && s)))
+first-four : (d u s : Bool) → (rowFirst d u ≡ 0 → ⊥) → T (not (d && (u && s)))
 first-four false u s f = tt
 first-four true false s f = tt
 first-four true true s f = absurd (f refl)
 
-none-first : (d u s : Bool) → firstOf d u ≡ 0 → T (not (d && (u && s))) → T (not s)
+none-first : (d u s : Bool) → rowFirst d u ≡ 0 → T (not (d && (u && s))) → T (not s)
 none-first false u s e t = absurd (omega arith)
 none-first true false s e t = absurd (omega arith)
 none-first true true s e t = t
 
-row-first : (v : View) (D : Dominoes) (A : ℕ) → rowDefect v D A ≡ firstOf (delex v D A) (deluni v D A)
+row-first : (v : View) (D : Dominoes) (A : ℕ) → rowDefect v D A ≡ rowFirst (delex v D A) (deluni v D A)
 unfolding rowDefect
 row-first v D A = rw (witnessed-delex v D A, witnessed-deluni v D A)
 

@@ -11,9 +11,9 @@ use Rattle.elimination.specs.Sets.{Sub, Same}
 use Rattle.elimination.specs.Elimination.{isStable, settled, Monotone, defectiveBy}
 use Rattle.elimination.specs.Calls.{Call, strike, settle, strikes, pass, Passes, struck, act, runCalls, runWith, Demand3}
 use Rattle.bitset.proofs.Facts.{either, and-left, and-right, and-both, T-same, T-of, or-cases}
-use Rattle.elimination.proofs.Tests.{every-at}
 use Rattle.bitset.proofs.Sizes.{size-mono, size-strict, size-none}
 use Rattle.elimination.proofs.Settling.{sub-refl, same-by, same-sub, same-sub′, stable-at, stable-by, not-stable, stable-same, settled-sub, settled-stable, settled-keeps, settled-same, defectiveBy-mono}
+use Rattle.elimination.proofs.Quantifiers.{every-at}
 
 module _ (N : ℕ) (defective : Set → ℕ → Bool) (mono : Monotone N defective) where
   -- ---- a strike

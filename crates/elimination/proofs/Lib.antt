@@ -1,4 +1,4 @@
-pub mod Tests
+pub mod Quantifiers
 pub mod Settling
 pub mod Calls
 pub mod Passes

@@ -6,8 +6,8 @@ use Prim.Native.Nat.{ℕ, zero, suc}
 use lib.Dec.{T, eqb}
 use Rattle.elimination.specs.Sets.{every}
 use Rattle.elimination.specs.Calls.{Call, strike, settle, strikes, someCut, pass, Passes, hasPasses}
+use Rattle.elimination.proofs.Quantifiers.{every-at, every-by}
 use Rattle.bitset.proofs.Facts.{and-left, and-right, and-both, or-cases, or-left, or-right}
-use Rattle.elimination.proofs.Tests.{every-at, every-by}
 
 someCut-at : (f : List Call → List Call → Bool) (pre cs : List Call) → T (someCut f pre cs) → (x : List Call) × (y : List Call) × (cs ≡ x ++ y) × T (f (pre ++ x) y)
 someCut-at f pre [] t = ([], [], refl, subst (λ (l : List Call). T (f l [])) (sym (append-nil pre)) t)

@@ -9,8 +9,8 @@ use lib.Dec.{T, eqb, ltb, eqb→eq, T-not, not-T}
 use Rattle.bitset.specs.Bits.{Set, without, size}
 use Rattle.elimination.specs.Sets.{Sub, Same}
 use Rattle.elimination.specs.Elimination.{isStable, step, steps, settling, settled, Monotone, Largest, Within, removed, removals, defectiveBy, canonical}
+use Rattle.elimination.proofs.Quantifiers.{every-at, every-by, every-not}
 use Rattle.bitset.proofs.Facts.{either, and-left, and-right, and-both, T-same, T-of, not-not, or-cases, or-left, or-right}
-use Rattle.elimination.proofs.Tests.{every-at, every-by, every-not}
 use Rattle.bitset.proofs.Sizes.{size-strict, size-le, size-none}
 
 module _ (N : ℕ) where

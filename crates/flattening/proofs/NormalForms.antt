@@ -16,7 +16,7 @@ use Rattle.syntax.specs.Flatten.{Atom, everything, nothing, nameA, Filler, atom
 use Rattle.syntax.specs.Parts.{everythingNo, nothingNo, freshNo}
 use Rattle.records.specs.RecordTable.{flag}
 use Rattle.flattening.specs.PartTable.{nfBelow, AtomIs, partWord, fillerWord, restriction, FillerAt, Restricts, Stands, Held, Pushed}
-use Rattle.flattening.specs.Adding.{Adds, Met}
+use Rattle.flattening.specs.Adding.{Adds, RestrictionMet}
 use Rattle.flattening.specs.AlikeParts.{placeIn}
 use Rattle.syntax.proofs.Trees.{concept-is, concept-past, concept-low, concept-none}
 use Rattle.flattening.proofs.PartTables.{held-push, held-length, held-over, adds-none, adds-and, adds-or}
@@ -228,7 +228,7 @@ module _ (limit : ℕ) (es : List Entry) (r : ℕ) (e : Entry) (p : e ≡ record
       place-parts j l none q e old new = held-push (part-of (atomic b)) h own (new (omega arith))
 
     met-parts : (before : List ℕ) (n a : ℕ) (after : List ℕ) (m : ℕ) → AtomIs (atom filler) a →
-        Met limit es kind role before n (partWord kind (flag odd) r a) (partWord 1 (flag odd) (e .second) 0) a after m →
+        RestrictionMet limit es kind role before n (partWord kind (flag odd) r a) (partWord 1 (flag odd) (e .second) 0) a after m →
         (so : List Part) → Held limit es before n so → Held limit es after m (so ++ meetOne shared part-of source filler so (atom filler) .parts)
     unfolding meetOne
     met-parts before n a after m is w so h = fits (decLt limit n)
@@ -257,12 +257,12 @@ module _ (limit : ℕ) (es : List Entry) (r : ℕ) (e : Entry) (p : e ≡ record
 
   module _ (c : Nf) (before : List ℕ) (n a : ℕ) (after : List ℕ) (m : ℕ) (is : AtomIs (atom filler) a) where
     pub adds-exists : c ≡ existsN source role filler →
-        Met limit es 2 role before n (partWord 2 (flag odd) r a) (partWord 1 (flag odd) (e .second) 0) a after m → Adds limit es c before n after m
+        RestrictionMet limit es 2 role before n (partWord 2 (flag odd) r a) (partWord 1 (flag odd) (e .second) 0) a after m → Adds limit es c before n after m
     unfolding walkBy
     adds-exists q w = rw q (met-parts 2 (existsP source role) (λ f. refl) (λ j f x. (refl, x)) before n a after m is w)
 
     pub adds-forall : c ≡ forallN source role filler →
-        Met limit es 3 role before n (partWord 3 (flag odd) r a) (partWord 1 (flag odd) (e .second) 0) a after m → Adds limit es c before n after m
+        RestrictionMet limit es 3 role before n (partWord 3 (flag odd) r a) (partWord 1 (flag odd) (e .second) 0) a after m → Adds limit es c before n after m
     unfolding walkBy
     adds-forall q w = rw q (met-parts 3 (forallP source role) (λ f. refl) (λ j f x. (refl, x)) before n a after m is w)
 

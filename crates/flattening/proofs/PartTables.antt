@@ -15,7 +15,7 @@ use Rattle.syntax.specs.Normal.{Nf, andN, orN}
 use Rattle.syntax.specs.Flatten.{Part, walkBy, walk, partAt, noPart}
 use Rattle.syntax.specs.Parts.{freshNo}
 use Rattle.flattening.specs.PartTable.{Stands, Stood, Held, Pushed}
-use Rattle.flattening.specs.Adding.{Adds, Met}
+use Rattle.flattening.specs.Adding.{Adds, RestrictionMet}
 use Rattle.flattening.specs.AlikeParts.{Sought, FirstAlike}
 
 -- what holds of the first i entries, and of a new one
@@ -28,14 +28,14 @@ each-set P l i v h old new k lt = at (ℕ-discrete k i)
     at (no n) = rw (getD-set-other l i k v 0 n) (old k (omega arith))
 
 -- a table of n entries of which the first i are filled
-pub record Filled (P : ℕ → ℕ → Type 0) (n : ℕ) (l : List ℕ) (i : ℕ) : Type 0 where
+pub record FilledTo (P : ℕ → ℕ → Type 0) (n : ℕ) (l : List ℕ) (i : ℕ) : Type 0 where
   pub size : length l ≡ n
   pub each : (k : ℕ) → k < i → P k (getD l k 0)
 
-pub filled-none : (P : ℕ → ℕ → Type 0) (n : ℕ) (l : List ℕ) → length l ≡ n → Filled P n l 0
+pub filled-none : (P : ℕ → ℕ → Type 0) (n : ℕ) (l : List ℕ) → length l ≡ n → FilledTo P n l 0
 filled-none P n l e = record { size = e; each = λ k h. absurd (omega arith) }
 
-pub filled-more : (P : ℕ → ℕ → Type 0) (n : ℕ) (l : List ℕ) (i v : ℕ) → Filled P n l i → i < n → P i v → Filled P n (set l i v) (i + 1)
+pub filled-more : (P : ℕ → ℕ → Type 0) (n : ℕ) (l : List ℕ) (i v : ℕ) → FilledTo P n l i → i < n → P i v → FilledTo P n (set l i v) (i + 1)
 filled-more P n l i v f h p = record { size = simp length-set (f .size); each = each-set P l i v (omega (arith, f .size)) (f .each) p }
 
 -- a word put at the end
@@ -92,12 +92,12 @@ pushed-over limit before n word h = record { count = rw (le-ltb n limit h) refl;
 -- a restriction met
 module _ {limit : ℕ} {es : List Entry} {kind : ℕ} {u : Role} {before : List ℕ} {n first second a : ℕ} {after : List ℕ} {m : ℕ} where
   pub met-both : {x y : ℕ} {t : List ℕ} {k : ℕ} → n ≤ limit → a ≡ freshNo → x ≡ first → y ≡ second → Pushed limit before n x t k →
-      Pushed limit t k y after m → Met limit es kind u before n first second a after m
+      Pushed limit t k y after m → RestrictionMet limit es kind u before n first second a after m
   met-both {t = t} {k} l h p q v w =
       record { over = λ o. absurd (omega arith); both = λ _ _. (t, k, rw p at v, rw q at w); place = λ _ e. absurd (e h) }
 
   pub met-new : {x j : ℕ} → n ≤ limit → (a ≡ freshNo → ⊥) → Sought es before n kind u a (FirstAlike n j) → n ≤ j → x ≡ first →
-      Pushed limit before n x after m → Met limit es kind u before n first second a after m
+      Pushed limit before n x after m → RestrictionMet limit es kind u before n first second a after m
   met-new {x} {j} l h s i p w =
       record {
         over = λ o. absurd (omega arith);
@@ -106,10 +106,10 @@ module _ {limit : ℕ} {es : List Entry} {kind : ℕ} {u : Role} {before : List 
       }
 
 module _ {limit : ℕ} {es : List Entry} {kind : ℕ} {u : Role} {t : List ℕ} {n first second a : ℕ} where
-  pub met-over : limit < n → Met limit es kind u t n first second a t n
+  pub met-over : limit < n → RestrictionMet limit es kind u t n first second a t n
   met-over l = record { over = λ _. refl; both = λ i. absurd (omega arith); place = λ i. absurd (omega arith) }
 
-  pub met-shared : {j : ℕ} → n ≤ limit → (a ≡ freshNo → ⊥) → Sought es t n kind u a (FirstAlike n j) → j < n → Met limit es kind u t n first second a t n
+  pub met-shared : {j : ℕ} → n ≤ limit → (a ≡ freshNo → ⊥) → Sought es t n kind u a (FirstAlike n j) → j < n → RestrictionMet limit es kind u t n first second a t n
   met-shared {j} l h s i =
       record {
         over = λ o. absurd (omega arith);

@@ -2,7 +2,7 @@
 use Prim.Native.Nat.{ℕ, zero, suc, _+_, _-_, _≤_, _<_}
 use native.Mathlib.Omega.{arith}
 use mathlib.Core.Path.{_≡_, refl, sym, ap, ap₂, _∙_}
-use mathlib.Core.Bool.{Bool, true, false, _&&_, false≢true}
+use mathlib.Core.Bool.{Bool, true, false, _&&_, false≢true, and-eq-true-iff}
 use mathlib.Core.List.{List}
 use lib.Dec.{eqb}
 use borrow.Author.Tests.{eqb-true, eq-eqb}
@@ -13,7 +13,7 @@ use Rattle.syntax.specs.Flatten.{sameRole}
 use Rattle.flattening.specs.PartTable.{roleKind}
 use Rattle.flattening.specs.AlikeParts.{noRole, Outer}
 use Rattle.syntax.proofs.Trees.{role-is, role-past, role-none, role-low}
-use Rattle.syntax.proofs.Alike.{role-same, same-role, both}
+use Rattle.syntax.proofs.Alike.{role-same, same-role}
 
 -- the kinds of roles
 role-kinds : (P : ℕ → Type 0) → P 16 → P 17 → P 18 → P 19 → P 20 → (k : ℕ) → 16 ≤ k → k ≤ 20 → P k
@@ -82,7 +82,7 @@ both-same : (op : Role → Role → Role) → ((u w v z : Role) → op u w ≡ o
     sameRole u v && sameRole w z ≡ sameRole (op u w) (op v z)
 both-same op apart u w v z =
     same-iff (op u w) (op v z) (sameRole u v && sameRole w z)
-    (λ e. let h = both (sameRole u v) (sameRole w z) e in ap₂ op (role-same u v (h .0)) (role-same w z (h .1)))
+    (λ e. let h = and-eq-true-iff (sameRole u v) (sameRole w z) .0 e in ap₂ op (role-same u v (h .0)) (role-same w z (h .1)))
     (λ e. let h = apart u w v z e in rw (same-role u v (h .0), same-role w z (h .1)))
 
 leaf-same : (op : ℕ → Role) → ((m n : ℕ) → op m ≡ op n → m ≡ n) → (m n : ℕ) → eqb m n ≡ sameRole (op m) (op n)

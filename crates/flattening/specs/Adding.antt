@@ -23,7 +23,7 @@ AddsBelow odd limit es below r before n after m = Adds limit es (nfBelow odd es 
 
 -- a restriction met: nothing above the limit; where its filler needs a fresh name, the word of its part and that of the next;
 -- else its word, unless a part alike is there
-pub record Met (limit : ℕ) (es : List Entry) (kind : ℕ) (u : Role) (before : List ℕ) (n first second atom : ℕ) (after : List ℕ) (m : ℕ) : Type 0 where
+pub record RestrictionMet (limit : ℕ) (es : List Entry) (kind : ℕ) (u : Role) (before : List ℕ) (n first second atom : ℕ) (after : List ℕ) (m : ℕ) : Type 0 where
   pub over : limit < n → m ≡ n
   pub both : n ≤ limit → atom ≡ freshNo → (t : List ℕ) × (k : ℕ) × Pushed limit before n first t k × Pushed limit t k second after m
   pub place : n ≤ limit → (atom ≡ freshNo → ⊥) → (j : ℕ) × Sought es before n kind u atom (FirstAlike n j)
@@ -32,7 +32,7 @@ pub record Met (limit : ℕ) (es : List Entry) (kind : ℕ) (u : Role) (before :
 -- the same for record r, with its records of role and filler, and the number of the filler
 abbrev pub MetAt : ℕ → List Entry → ℕ → ℕ → ℕ → ℕ → ℕ → ℕ → List ℕ → ℕ → List ℕ → ℕ → Type 0
 MetAt limit es kind odd r role filler atom before n after m =
-    Met limit es kind (roleBelow es r role) before n (partWord kind odd r atom) (partWord 1 odd filler 0) atom after m
+    RestrictionMet limit es kind (roleBelow es r role) before n (partWord kind odd r atom) (partWord 1 odd filler 0) atom after m
 
 -- what going through some of the queue adds to the parts that a table stands for
 abbrev pub AddsAll : ℕ → List Entry → List Pending → List ℕ → ℕ → List ℕ → ℕ → Type 0

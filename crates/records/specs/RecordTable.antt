@@ -77,10 +77,10 @@ scanningOf table (Refused f place) = refused f place
 scanningOf table (Whole p) = whole (stateOf table p)
 
 -- a fault is not 0, and the records fit the table
-abbrev pub Fits : Scanned → Type 0
-Fits (Refused f place) = f ≡ 0 → ⊥
-Fits (Whole p) = p .count ≤ 255
+abbrev pub FitsTable : Scanned → Type 0
+FitsTable (Refused f place) = f ≡ 0 → ⊥
+FitsTable (Whole p) = p .count ≤ 255
 
 pub record Scans (sheet table : List ℕ) (r : Scanned) : Type 0 where
   pub result : scanningOf table r ≡ scanSheet sheet
-  pub fits : Fits r
+  pub fits : FitsTable r

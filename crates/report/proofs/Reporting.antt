@@ -1,10 +1,9 @@
 -- From what read and judge answer to the evening program's lines.
-use Prim.Native.Nat.{ℕ, _<_}
+use Prim.Native.Nat.{ℕ}
 use mathlib.Core.Path.{_≡_, sym, ap, subst, _∙_}
 use mathlib.Core.Bool.{Bool, true, false}
 use mathlib.Core.List.{List, [], _∷_, _++_}
 use native.Mathlib.Omega.{arith}
-use lib.ListN.{length}
 use Rattle.tbox.specs.declared.ReadAnswer.{ReadAnswer}
 use Rattle.tbox.specs.declared.ReadAnswer.the-variants.{Refused, Read}
 use Rattle.syntax.specs.Reading.{Reading, refusal, kb}
@@ -14,6 +13,7 @@ use Rattle.domino.specs.declared.JudgeAnswer.{JudgeAnswer}
 use Rattle.domino.specs.declared.JudgeAnswer.the-variants.{Refused as NotJudged, Judged}
 use Rattle.domino.specs.Answers.{judgeNumbers, judgeSays, Judges}
 use Rattle.domino.proofs.SpeltOut.{judge-leaves-refusal}
+use Rattle.domino.proofs.Decides.{unequal}
 use Rattle.report.specs.Text.{Puts}
 use Rattle.report.specs.Lines.{refusedLine, countsLine, sizesLine, verdictLine, judgedLines, eveningLines, Reports}
 
@@ -29,10 +29,6 @@ module _ (t l c : ℕ) (a : JudgeAnswer) {before after : List ℕ} {r : ℕ} whe
   unfolding judgedLines judgeNumbers
   puts-judged o s true e puts = rw e puts
   puts-judged o s false e puts = rw e puts
-
--- lists of other lengths
-unequal : {A : Type 0} (a b : List ℕ) → a ≡ b → length a < length b → A
-unequal a b e h = absurd (omega (arith, ap length e))
 
 -- read refuses
 refused : (s : Reading) (ws before after : List ℕ) (r n p : ℕ) → n ∷ p ∷ [] ≡ readSays s → Puts (refusedLine n p) 0 before after r

@@ -4,14 +4,13 @@ use mathlib.Core.Path.{_≡_, sym as flip, ap, _∙_, subst, fun-ext}
 use mathlib.Core.Bool.{true, not, _&&_}
 use Prim.Native.Nat.{ℕ, _*_, _^_, _<_}
 use lib.Dec.{T, eqb, ltb, eqb→eq, T-not}
-use borrow.Author.Tests.{lt-ltb, ltb-true}
+use borrow.Author.Tests.{lt-ltb, ltb-true, eq-eqb}
 use Rattle.bitset.specs.Bits.{Set}
-use Rattle.bitset.proofs.Facts.{either, T-of}
+use Rattle.bitset.proofs.Facts.{either, T-of, is-true, of-true, and-l, and-r, iff-eq}
 use Rattle.elimination.specs.Elimination.{isStable}
 use Rattle.elimination.proofs.Settling.{stable-at, stable-by, canonical-stable, canonical-largest}
 use Rattle.semantics.specs.Dominoes.{Dominoes, Domino, number, leftOf, rolesOf, rightOf, inverse, numbered, unnumbered}
 use Rattle.semantics.specs.Conditions.{View, delex, deluni, sym, defect, sustained, Stable, InRange, LargestStable, dominoes, initial, lacks, defective, defectAt, canon, canonDominoes}
-use Rattle.semantics.proofs.Truths.{is-true, of-true, and-l, and-r, eqb-true, iff-eq}
 use Rattle.semantics.proofs.Numbers.{number-lt, left-number, roles-number, right-number, domino-of, number-of}
 use Rattle.semantics.proofs.Defects.{defect-none, none-defect, defective-is, sustained-within, lacks-monotone}
 
@@ -19,7 +18,7 @@ no-defect : (n : ℕ) → (T (not (eqb n 0)) → ⊥) → n ≡ 0
 no-defect n f = either (eqb n 0) (eqb→eq n 0) (λ t. absurd (f t))
 
 has-defect : (n : ℕ) → n ≡ 0 → T (not (eqb n 0)) → ⊥
-has-defect n e t = T-not (eqb n 0) t (of-true (eqb-true e))
+has-defect n e t = T-not (eqb n 0) t (of-true (eq-eqb _ _ e))
 
 module _ (v : View) where
   -- the dominoes whose numbers are in a set

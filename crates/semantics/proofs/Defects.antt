@@ -6,14 +6,14 @@ use Prim.Native.Nat.{ℕ, _*_, _^_, _≤_, _<_}
 use native.Mathlib.Omega.{arith}
 use lib.Dec.{eqb}
 use Rattle.bitset.specs.Bits.{Set, bit}
-use Rattle.bitset.proofs.Facts.{not-mono}
+use Rattle.bitset.proofs.Facts.{not-mono, is-true, of-true, and-l, and-r, and-i, imp-e, imp-i}
 use Rattle.elimination.specs.Sets.{some}
 use Rattle.elimination.specs.Elimination.{Monotone}
 use Rattle.elimination.proofs.Settling.{defectiveBy-mono}
+use Rattle.elimination.proofs.Quantifiers.{all-at, all-intro, any-intro, any-found}
 use Rattle.syntax.specs.Bounds.{All}
 use Rattle.semantics.specs.Dominoes.{Dominoes, Domino, number, leftOf, rolesOf, rightOf, inverse, numbered}
 use Rattle.semantics.specs.Conditions.{View, order, firstFailing, FirstFails, kb, ex, uni, witness, delex, deluni, sym, condition, defect, initially, sustained, dominoes, initial, lacks, defective, defectAt}
-use Rattle.semantics.proofs.Truths.{is-true, of-true, and-l, and-r, and-i, imp-e, imp-i, all-at, all-intro, any-intro, any-found}
 use Rattle.semantics.proofs.Numbers.{number-lt, domino-of, inverse-lt}
 
 -- ---- the first number of a list whose test fails

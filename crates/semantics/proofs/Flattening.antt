@@ -8,9 +8,10 @@ use mathlib.Core.List.{List, [], _∷_, _++_, append-assoc}
 use lib.ListN.{length, length-append, List·getD-append}
 use lib.Seq.{getD-append-seam, getD-append-add}
 use Rattle.syntax.specs.Concepts.{Role, Concept, topC, bottomC, nameC, notC, andC, orC, existsC, forallC, Axiom}
-use Rattle.syntax.specs.Normal.{Tag, Nf, topN, bottomN, nameN, notN, andN, orN, existsN, forallN, plain, negated, axiomNf}
+use Rattle.syntax.specs.Normal.{Tag, Nf, topN, bottomN, nameN, notN, andN, orN, existsN, forallN, axiomNf}
 use Rattle.syntax.specs.Flatten.{Atom, Filler, atomic, fresh, Part, nameP, freshP, existsP, forallP, Flat, partF, notF, orF, atom, Pending, whole, guarded, Walked, alike, Lookup, shared, separate, placed, meetOne, walkBy, walkPendingBy, Flattening, runBy, nameParts, pendings, flattenBy, flatten, noPart, partAt}
-use Rattle.syntax.specs.Bounds.{All, NamesBelow, EachRole, AxiomNames, AxiomRoles}
+use Rattle.syntax.specs.Bounds.{All, EachRole, AxiomNames, AxiomRoles}
+use Rattle.syntax.proofs.NormalForm.{EachNf, axiom-forms}
 use Rattle.syntax.proofs.Alike.{exists-alike, forall-alike, found-at}
 use Rattle.syntax.proofs.Queue.{Left, left-start, left-step, left-end, left-part}
 use Rattle.syntax.proofs.Promised.{all-append, names-first, parts-roles, parts-plain}
@@ -68,46 +69,11 @@ module _ (m : ℕ → Part) where
 
   -- each name stands at its own number
   abbrev Named : Nf → Type 0
-  Named topN = Unit
-  Named bottomN = Unit
-  Named (nameN t) = m t ≡ nameP t
-  Named (notN t) = m t ≡ nameP t
-  Named (andN c d) = Named c × Named d
-  Named (orN c d) = Named c × Named d
-  Named (existsN g u c) = Named c
-  Named (forallN g u c) = Named c
+  Named c = EachNf (λ t. m t ≡ nameP t) (λ u. Unit {0}) c
 
   abbrev NamedP : Pending → Type 0
   NamedP (whole c) = Named c
   NamedP (guarded j c) = Named c
-
-  module _ (T : ℕ) (first : (t : ℕ) → t < T → m t ≡ nameP t) where
-    mutual
-      unfolding NamesBelow plain negated
-
-      plain-named : (c : Concept) → NamesBelow T c → Named (plain c)
-      plain-named topC h = tt
-      plain-named bottomC h = tt
-      plain-named (nameC t) h = first t h
-      plain-named (notC c) h = negated-named c h
-      plain-named (andC c d) h = (plain-named c (h .0), plain-named d (h .1))
-      plain-named (orC c d) h = (plain-named c (h .0), plain-named d (h .1))
-      plain-named (existsC r f u c) h = plain-named c h
-      plain-named (forallC r f u c) h = plain-named c h
-
-      negated-named : (c : Concept) → NamesBelow T c → Named (negated c)
-      negated-named topC h = tt
-      negated-named bottomC h = tt
-      negated-named (nameC t) h = first t h
-      negated-named (notC c) h = plain-named c h
-      negated-named (andC c d) h = (negated-named c (h .0), negated-named d (h .1))
-      negated-named (orC c d) h = (negated-named c (h .0), negated-named d (h .1))
-      negated-named (existsC r f u c) h = negated-named c h
-      negated-named (forallC r f u c) h = negated-named c h
-
-    axiom-named : (a : Axiom) → NamesBelow T (a .left) → NamesBelow T (a .right) → Named (axiomNf a)
-    unfolding axiomNf
-    axiom-named a h k = (negated-named (a .left) h, plain-named (a .right) k)
 
   abbrev Found : Option Atom → Type 0
   Found (some a) = AtomAt m a
@@ -164,8 +130,8 @@ module _ (m : ℕ → Part) where
       walk-waits (orN c d) so n h =
           let so′ : List Part = so ++ walkBy find c so .parts in
           both-wait so (walkBy find c so) (walkBy find d so′) h (walk-waits c so (n .0)) (walk-waits d so′ (n .1))
-      walk-waits (existsN g u c) so n h = meet-waits (existsP g u) g c so (atom c) n h
-      walk-waits (forallN g u c) so n h = meet-waits (forallP g u) g c so (atom c) n h
+      walk-waits (existsN g u c) so n h = meet-waits (existsP g u) g c so (atom c) (n .1) h
+      walk-waits (forallN g u c) so n h = meet-waits (forallP g u) g c so (atom c) (n .1) h
 
       pending-waits : (p : Pending) (so : List Part) → NamedP p → Stands (so ++ walkPendingBy find p so .parts) →
           All Waits (walkPendingBy find p so .later)
@@ -238,9 +204,9 @@ module _ (m : ℕ → Part) where
             walk-laid e (so ++ a .parts) (n .1) (stands-next so (a .parts) (b .parts) h) (all-right Done (a .later) (b .later) d),
           )
       walk-laid (existsN g u c) so n h d =
-          meet-laid (λ e. existsP e u) (λ g a q. exists-alike g u a q) g c so (atom c) (atom-found c n) h d
+          meet-laid (λ e. existsP e u) (λ g a q. exists-alike g u a q) g c so (atom c) (atom-found c (n .1)) h d
       walk-laid (forallN g u c) so n h d =
-          meet-laid (λ e. forallP e u) (λ g a q. forall-alike g u a q) g c so (atom c) (atom-found c n) h d
+          meet-laid (λ e. forallP e u) (λ g a q. forall-alike g u a q) g c so (atom c) (atom-found c (n .1)) h d
 
       pending-laid : (p : Pending) (so : List Part) → NamedP p → Stands (so ++ walkPendingBy find p so .parts) →
           All Done (walkPendingBy find p so .later) → R (walkPendingBy find p so .flat) → Done p
@@ -314,7 +280,7 @@ axioms-wait : (m : ℕ → Part) (T : ℕ) → ((t : ℕ) → t < T → m t ≡ 
     All (λ a. S (axiomNf a)) s → All (Waits m S) (pendings s)
 unfolding pendings
 axioms-wait m T first S [] n h = tt
-axioms-wait m T first S (a ∷ s) n h = ((axiom-named m T first a (n .0) (n .1), h .0), axioms-wait m T first S s (n .2) (h .1))
+axioms-wait m T first S (a ∷ s) n h = ((axiom-forms (λ t. m t ≡ nameP t) (λ u. Unit {0}) T first a (n .0) (n .1) (each-role (a .left)) (each-role (a .right)), h .0), axioms-wait m T first S s (n .2) (h .1))
 
 axioms-done : (m : ℕ → Part) (R : Flat → Type 0) (s : List Axiom) → All (Done m R) (pendings s) →
     All (λ a. (h : Flat) × R h × Laid m R (axiomNf a) h) s

@@ -10,9 +10,12 @@ use mathlib.Core.Logic.{_⊎_, inl, inr}
 use mathlib.Core.Bool.{Bool, true, false, not, _&&_, _||_, false≢true}
 use mathlib.Core.List.{List, [], _∷_}
 use lib.Dec.{eqb}
+use borrow.Author.Tests.{eq-eqb, eqb-true}
 use Rattle.bitset.specs.Bits.{bit}
 use Rattle.bitset.proofs.Laws.{bit-past}
+use Rattle.bitset.proofs.Facts.{and-l, and-r, and-i, imp-i, imp-e, is-false, iff-eq, dec}
 use Rattle.elimination.specs.Sets.{every, some}
+use Rattle.elimination.proofs.Quantifiers.{all-at, all-intro, any-intro, any-found}
 use Rattle.syntax.specs.Concepts.{Role, named, inverse as inverseR, notR, andR, orR}
 use Rattle.syntax.specs.Normal.{Tag}
 use Rattle.syntax.specs.Flatten.{Filler, Part, existsP, forallP, Flat, partAt}
@@ -24,7 +27,6 @@ use Rattle.semantics.specs.Conditions.{Stable}
 use Rattle.semantics.specs.Views.{fillerIn, viewOf}
 use Rattle.semantics.specs.Labelling.{Labelling}
 use Rattle.semantics.specs.Layers.{labelAt, leads, rolesAt, labelled, Enumerates}
-use Rattle.semantics.proofs.Truths.{and-l, and-r, and-i, imp-i, imp-e, all-at, all-intro, any-intro, any-found, not-true, iff-eq, dec, eqb-true, true-eqb}
 use Rattle.semantics.proofs.Numbers.{inverse-even, inverse-odd}
 use Rattle.semantics.proofs.Stability.{Witness, stable-kb, stable-ex, stable-uni, stable-delex, stable-deluni, stable-sym}
 
@@ -129,9 +131,9 @@ module _ (L m : ℕ) (a r b : ℕ → ℕ) where
   -- an individual does not lead to one that leads to it
   one-way : (x y : ℕ) → leads m a b x y ≡ true → leads m a b y x ≡ false
   unfolding leads
-  one-way x y e = not-true (leads m a b y x) (λ f.
-      let p : (x / m + 1) % 3 ≡ y / m = true-eqb (and-l (eqb ((x / m + 1) % 3) (y / m)) (eqb (b (x % m)) (a (y % m))) e) in
-      let q : (y / m + 1) % 3 ≡ x / m = true-eqb (and-l (eqb ((y / m + 1) % 3) (x / m)) (eqb (b (y % m)) (a (x % m))) f) in
+  one-way x y e = is-false (leads m a b y x) (λ f.
+      let p : (x / m + 1) % 3 ≡ y / m = eqb-true _ _ (and-l (eqb ((x / m + 1) % 3) (y / m)) (eqb (b (x % m)) (a (y % m))) e) in
+      let q : (y / m + 1) % 3 ≡ x / m = eqb-true _ _ (and-l (eqb ((y / m + 1) % 3) (x / m)) (eqb (b (y % m)) (a (x % m))) f) in
       apart (x / m) (y / m) p q)
     where
       apart : (g h : ℕ) → (g + 1) % 3 ≡ h → (h + 1) % 3 ≡ g → ⊥
@@ -170,7 +172,7 @@ module _ (L m : ℕ) (a r b : ℕ → ℕ) where
     -- the domino of the individual that x leads to begins with x's label
     meet-at : (x y : ℕ) → leads m a b x y ≡ true → b (x % m) ≡ a (y % m)
     unfolding leads
-    meet-at x y e = true-eqb (and-r (eqb ((x / m + 1) % 3) (y / m)) (eqb (b (x % m)) (a (y % m))) e)
+    meet-at x y e = eqb-true _ _ (and-r (eqb ((x / m + 1) % 3) (y / m)) (eqb (b (x % m)) (a (y % m))) e)
 
     pair-at : (x y : ℕ) → Either x y → Either y x
         → (D (labelAt m b x) (rolesAt L m a r b x y) (labelAt m b y) ≡ true) ⊎ (rolesAt L m a r b x y ≡ 0)
@@ -186,7 +188,7 @@ module _ (L m : ℕ) (a r b : ℕ → ℕ) where
         let g : ℕ = (x / m + 1) % 3 in (
           g * m + j,
           small g h (omega arith),
-          and-i (eqb-true (sym (digits-div g h))) (eqb-true (e ∙ ap a (sym (digits-mod g h)))),
+          and-i (eq-eqb _ _ (sym (digits-div g h))) (eq-eqb _ _ (e ∙ ap a (sym (digits-mod g h)))),
           digits-mod g h,
         )
       where

@@ -1,4 +1,3 @@
-pub mod Truths
 pub mod Numbers
 pub mod NormalForm
 pub mod Flattening

@@ -6,7 +6,9 @@ use mathlib.Core.Logic.{_⊎_, inl, inr}
 use mathlib.Core.Option.{none}
 use mathlib.Core.List.{List, [], _∷_}
 use lib.ListN.{length, List·getD-eq-default}
+use Rattle.bitset.proofs.Facts.{and-l, and-r, and-i, or-case, or-l, or-r, imp-e, imp-i}
 use Rattle.elimination.specs.Sets.{every, some}
+use Rattle.elimination.proofs.Quantifiers.{all-at, all-intro, any-found, any-intro}
 use Rattle.syntax.specs.Concepts.{Role, Axiom}
 use Rattle.syntax.specs.Normal.{Tag, Nf, topN, bottomN, nameN, notN, andN, orN, existsN, forallN, axiomNf}
 use Rattle.syntax.specs.Flatten.{everything, nothing, nameA, Filler, atomic, fresh, Part, nameP, freshP, existsP, forallP, Flat, atom, noPart, partAt}
@@ -17,7 +19,6 @@ use Rattle.semantics.specs.Views.{fillerIn}
 use Rattle.semantics.specs.Projection.{plainAt, readPart, partsIn}
 use Rattle.semantics.specs.Flattens.{AtomAt, Fills, Laid, Origin, ofAxiom, ofFiller, Flattens}
 use Rattle.semantics.specs.Labelling.{Labelling}
-use Rattle.semantics.proofs.Truths.{and-l, and-r, and-i, or-case, or-l, or-r, imp-e, imp-i, all-at, all-intro, any-found, any-intro}
 use Rattle.semantics.proofs.NormalForm.{axiom-holds}
 
 all-map {κ κ′} : {A : Type 0} {P : A → Type κ} {Q : A → Type κ′} → ((a : A) → P a → Q a) → (l : List A) → All P l → All Q l

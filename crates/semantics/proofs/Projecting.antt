@@ -7,8 +7,11 @@ use native.Mathlib.Decide.{decLt}
 use native.Mathlib.Omega.{arith}
 use lib.Dec.{eqb}
 use lib.ListN.{length}
+use borrow.Author.Tests.{eqb-true, eq-eqb}
 use Rattle.bitset.specs.Bits.{bit, word}
 use Rattle.bitset.proofs.Laws.{word-lt, word-ext, word-bits, bit-word, bit-past}
+use Rattle.bitset.proofs.Facts.{and-l, and-r, and-i, imp-e, imp-i}
+use Rattle.elimination.proofs.Quantifiers.{all-at, all-intro, any-intro, any-found, not-all}
 use Rattle.syntax.specs.Concepts.{Role, named, inverse as inverseR, notR, andR, orR}
 use Rattle.syntax.specs.Flatten.{Part, nameP, freshP, existsP, forallP, Flat, partAt}
 use Rattle.syntax.specs.Truth.{eval, kbOn, roleOn}
@@ -20,7 +23,6 @@ use Rattle.semantics.specs.Conditions.{View, kb, ex, uni, witness, delex
 use Rattle.semantics.specs.Views.{fillerIn, hasFiller, viewOf}
 use Rattle.semantics.specs.Projection.{roleBit, roleSet, projectionOf}
 use Rattle.semantics.specs.Labelling.{Labelling}
-use Rattle.semantics.proofs.Truths.{eqb-same, true-eqb, and-l, and-r, and-i, imp-e, imp-i, all-at, all-intro, any-intro, any-found, not-all}
 use Rattle.semantics.proofs.Numbers.{inverse-lt, inverse-even, inverse-odd}
 use Rattle.semantics.proofs.Defects.{none-defect, witness-by}
 
@@ -81,7 +83,7 @@ module _ (I : Interpretation) (L c : ℕ) (lab : ℕ → ℕ → Bool) where
       let B : ℕ = word c (lab y) in
       any-intro (I .individuals) _ x lx
       (any-intro (I .individuals) (λ z. eqb A A && (eqb R (roleSet L (I .joined) x z) && eqb B (word c (lab z)))) y ly
-      (and-i (eqb-same A) (and-i (eqb-same R) (eqb-same B))))
+      (and-i (eq-eqb A A refl) (and-i (eq-eqb R R refl) (eq-eqb B B refl))))
 
   -- and there are no others
   pub domino-from : (A R B : ℕ) → projectionOf I L c lab A R B ≡ true → (x : ℕ) × (y : ℕ) × (x < I .individuals) × (y < I .individuals)
@@ -98,9 +100,9 @@ module _ (I : Interpretation) (L c : ℕ) (lab : ℕ → ℕ → Bool) where
         y,
         w .1,
         u .1,
-        true-eqb p,
-        true-eqb (and-l (eqb R (roleSet L (I .joined) x y)) (eqb B (word c (lab y))) q),
-        true-eqb (and-r (eqb R (roleSet L (I .joined) x y)) (eqb B (word c (lab y))) q),
+        eqb-true _ _ p,
+        eqb-true _ _ (and-l (eqb R (roleSet L (I .joined) x y)) (eqb B (word c (lab y))) q),
+        eqb-true _ _ (and-r (eqb R (roleSet L (I .joined) x y)) (eqb B (word c (lab y))) q),
       )
 
 pub projection-range : (I : Interpretation) (L : ℕ) (ps : List Part) (fs : List Flat) (lab : ℕ → ℕ → Bool)

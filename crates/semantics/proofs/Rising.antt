@@ -9,10 +9,10 @@ use mathlib.Core.Logic.{_⊎_, inl, inr}
 use mathlib.Core.Bool.{true, false, false≢true}
 use mathlib.Core.List.{List, [], _∷_, _++_, append-nil}
 use Rattle.bitset.specs.Bits.{Set}
+use Rattle.bitset.proofs.Facts.{dec}
 use Rattle.semantics.specs.Dominoes.{Dominoes, total, number, leftOf, rolesOf, rightOf, unnumbered}
 use Rattle.semantics.specs.Conditions.{View, InRange, dominoes, canon, canonDominoes}
 use Rattle.semantics.specs.Layers.{Enumerates, rising}
-use Rattle.semantics.proofs.Truths.{dec}
 use Rattle.semantics.proofs.Numbers.{number-lt, left-number, roles-number, right-number}
 use Rattle.semantics.proofs.Canonical.{dominoesOf, of-unnumbered, canon-largest}
 

@@ -9,6 +9,8 @@ use mathlib.Core.List.{List}
 use lib.ListN.{length, List·getD-eq-default}
 use lib.Dec.{eqb}
 use Rattle.bitset.specs.Bits.{bit}
+use Rattle.bitset.proofs.Facts.{and-l, and-r, and-i, imp-e, iff-eq, dec}
+use Rattle.elimination.proofs.Quantifiers.{all-at}
 use Rattle.syntax.specs.Concepts.{Role}
 use Rattle.syntax.specs.Normal.{Tag}
 use Rattle.syntax.specs.Flatten.{Filler, Part, nameP, freshP, existsP, forallP, Flat, partAt}
@@ -17,7 +19,6 @@ use Rattle.syntax.specs.Parts.{kindOf, roleHolds}
 use Rattle.semantics.specs.Dominoes.{Dominoes, inverse}
 use Rattle.semantics.specs.Conditions.{kb, ex, uni, witness, delex, deluni, sym as converse, initially, sustained, Stable}
 use Rattle.semantics.specs.Views.{fillerIn, hasFiller, viewOf}
-use Rattle.semantics.proofs.Truths.{and-l, and-r, and-i, imp-e, all-at, iff-eq, dec}
 use Rattle.semantics.proofs.Defects.{defect-none, witness-found}
 use Rattle.semantics.proofs.Canonical.{stable-converse}
 

@@ -11,8 +11,10 @@ use mathlib.Core.Logic.{_↔_}
 use mathlib.Core.Bool.{Bool, true, false}
 use mathlib.Core.List.{List}
 use lib.ListN.{length, getD}
+use borrow.Author.Tests.{eqb-true}
 use Rattle.bitset.specs.Bits.{bit, word}
 use Rattle.bitset.proofs.Laws.{word-ext, word-bits, bit-past}
+use Rattle.bitset.proofs.Facts.{iff-eq, is-false, and-l}
 use Rattle.syntax.specs.Concepts.{Axiom}
 use Rattle.syntax.specs.Flatten.{Part, Flat, separate, Flattening, flattenBy, partAt}
 use Rattle.syntax.specs.Truth.{roleOn}
@@ -27,7 +29,6 @@ use Rattle.semantics.specs.Projection.{partsIn, roleBit, roleSet, projec
 use Rattle.semantics.specs.Flattens.{Flattens}
 use Rattle.semantics.specs.Labelling.{Labelling}
 use Rattle.semantics.specs.Layers.{labelAt, leads, rolesAt, layered, Enumerates, rising}
-use Rattle.semantics.proofs.Truths.{iff-eq, not-true, and-l, true-eqb}
 use Rattle.semantics.proofs.Flattening.{flatten-flattens, separate-faithful, judged-flattens}
 use Rattle.semantics.proofs.Meaning.{models-labelling, labelling-models, parts-out}
 use Rattle.semantics.proofs.Canonical.{canon-largest}
@@ -137,9 +138,9 @@ module _ (s : List Axiom) (L : ℕ) (ps : List Part) (fs : List Flat) (F : Flatt
     -- two individuals of one layer are joined by no role
     no-lead : (x y : ℕ) → x < m → y < m → leads m a b x y ≡ false
     unfolding leads
-    no-lead x y lx ly = not-true (leads m a b x y) (λ e.
+    no-lead x y lx ly = is-false (leads m a b x y) (λ e.
         let p = and-l (eqb ((x / m + 1) % 3) (y / m)) (eqb (b (x % m)) (a (y % m))) e in
-        apart (x / m) (y / m) (div-eq-of-lt lx) (div-eq-of-lt ly) (true-eqb p))
+        apart (x / m) (y / m) (div-eq-of-lt lx) (div-eq-of-lt ly) (eqb-true _ _ p))
       where
         apart : (g h : ℕ) → g ≡ 0 → h ≡ 0 → (g + 1) % 3 ≡ h → ⊥
         apart g h p q e = omega arith

@@ -3,7 +3,7 @@ use Prim.Native.Nat.{ℕ, zero, suc, _+_, _≤_, _<_}
 use native.Mathlib.Omega.{arith}
 use native.Mathlib.Decide.{ℕ-discrete}
 use mathlib.Core.Path.{_≡_, refl, sym, ap, ap₂, _∙_}
-use mathlib.Core.Bool.{Bool, true, false, cond, _&&_, false≢true}
+use mathlib.Core.Bool.{Bool, true, false, cond, _&&_, false≢true, and-eq-true-iff}
 use mathlib.Core.Option.{none, some}
 use mathlib.Core.List.{List, [], _∷_, _++_}
 use lib.ListN.{length}
@@ -43,17 +43,13 @@ same-filler a (fresh j) e = let z : _≡_ {A = ℕ} 0 1 = cc in absurd (omega ar
 
 -- ---- parts alike
 
-pub both : (a b : Bool) → a && b ≡ true → (a ≡ true) × (b ≡ true)
-both true b e = (refl, e)
-both false b e = absurd (false≢true e)
-
 -- a part like a restriction is one of the same kind, role and filler
 pub exists-alike : (g : Tag) (u : Role) (a : Atom) (q : Part) → alike (existsP g u (atomic a)) q ≡ true → (h : Tag) × (q ≡ existsP h u (atomic a))
 unfolding alike likeExists
 exists-alike g u a (nameP t) e = absurd (false≢true e)
 exists-alike g u a (freshP h c) e = absurd (false≢true e)
 exists-alike g u a (existsP h v f) e =
-    let w = both (sameRole u v) (sameFiller (atomic a) f) e in
+    let w = and-eq-true-iff (sameRole u v) (sameFiller (atomic a) f) .0 e in
     (h, ap₂ (existsP h) (sym (role-same u v (w .0))) (filler-same a f (w .1)))
 exists-alike g u a (forallP h v f) e = absurd (false≢true e)
 
@@ -63,7 +59,7 @@ forall-alike g u a (nameP t) e = absurd (false≢true e)
 forall-alike g u a (freshP h c) e = absurd (false≢true e)
 forall-alike g u a (existsP h v f) e = absurd (false≢true e)
 forall-alike g u a (forallP h v f) e =
-    let w = both (sameRole u v) (sameFiller (atomic a) f) e in
+    let w = and-eq-true-iff (sameRole u v) (sameFiller (atomic a) f) .0 e in
     (h, ap₂ (forallP h) (sym (role-same u v (w .0))) (filler-same a f (w .1)))
 
 -- ---- the first part alike

@@ -2,6 +2,8 @@ pub mod Alike
 pub mod Bounded
 pub mod Fewer
 pub mod Formed
+pub mod NormalForm
+pub mod Prefix
 pub mod Promised
 pub mod Queue
 pub mod Trees

@@ -15,12 +15,13 @@ use Rattle.records.specs.declared.Shape.{Shape}
 use Rattle.records.specs.declared.Entry.{Entry}
 use Rattle.records.specs.Shapes.{isRestriction}
 use Rattle.records.specs.Scan.{State, start, recordAt, orElse, numberFault, sortFault, againFault, referenceFault, name, emptyFault, bodyFault, bodyByte, shapeAt, recordFault, recordAfter, Scanning, refused, whole, scan, scanSheet}
-use Rattle.syntax.specs.Concepts.{Role, Concept, topC, bottomC, nameC, notC, andC, orC, existsC, forallC, Axiom}
-use Rattle.syntax.specs.Normal.{Tag, Nf, topN, bottomN, nameN, notN, andN, orN, existsN, forallN, plain, negated, axiomNf}
+use Rattle.syntax.specs.Concepts.{Role, Axiom}
+use Rattle.syntax.specs.Normal.{Tag, Nf, topN, bottomN, nameN, notN, andN, orN, existsN, forallN}
 use Rattle.syntax.specs.Flatten.{Atom, everything, nothing, nameA, Filler, atomic, fresh, Part, nameP, freshP, existsP, forallP, atom, Pending, whole as wholeP, guarded, Walked, Lookup, shared, placed, meetOne, walkBy, walkPendingBy, runBy, weights, nameParts, pendings, flattenBy, noPart, partAt}
 use Rattle.syntax.specs.Truth.{roleOn}
 use Rattle.syntax.specs.Reading.{Kb, refusal, kb, kbOf, partsOf, admit, reading, readKb, isRecordFault, isReadRefusal}
-use Rattle.syntax.specs.Bounds.{All, RolesBelow, NamesBelow, EachRole, AxiomNames, AxiomRoles, AxiomsBelow, PartRole, PartFiller, FillerLow, PartLow, FillerPlain, PartPlain}
+use Rattle.syntax.specs.Bounds.{All, RolesBelow, AxiomNames, AxiomRoles, AxiomsBelow, PartRole, PartFiller, FillerLow, PartLow, FillerPlain, PartPlain}
+use Rattle.syntax.proofs.NormalForm.{EachNf, axiom-forms}
 use Rattle.syntax.proofs.Formed.{read-few}
 use Rattle.syntax.proofs.Bounded.{read-bounded, axioms-restricted}
 use Rattle.syntax.proofs.Queue.{names-length, left-start, left-grows, left-part}
@@ -82,47 +83,18 @@ filler-more P R i (forallP g u f) h = i f h
 -- Names below T and Q of the role of each restriction: this goes from the axioms to their normal forms and to the parts,
 -- whichever lookup.
 module _ (find : Lookup) (T : ℕ) (Q : Role → Type 0) where
-  abbrev Fits : Nf → Type 0
-  Fits topN = Unit
-  Fits bottomN = Unit
-  Fits (nameN t) = t < T
-  Fits (notN t) = t < T
-  Fits (andN c d) = Fits c × Fits d
-  Fits (orN c d) = Fits c × Fits d
-  Fits (existsN g u c) = Q u × Fits c
-  Fits (forallN g u c) = Q u × Fits c
-
-  mutual
-    unfolding NamesBelow EachRole plain negated
-
-    plain-fits : (c : Concept) → NamesBelow T c → EachRole Q c → Fits (plain c)
-    plain-fits topC h q = tt
-    plain-fits bottomC h q = tt
-    plain-fits (nameC t) h q = h
-    plain-fits (notC c) h q = negated-fits c h q
-    plain-fits (andC c d) h q = (plain-fits c (h .0) (q .0), plain-fits d (h .1) (q .1))
-    plain-fits (orC c d) h q = (plain-fits c (h .0) (q .0), plain-fits d (h .1) (q .1))
-    plain-fits (existsC r f u c) h q = (q .0, plain-fits c h (q .1))
-    plain-fits (forallC r f u c) h q = (q .0, plain-fits c h (q .1))
-
-    negated-fits : (c : Concept) → NamesBelow T c → EachRole Q c → Fits (negated c)
-    negated-fits topC h q = tt
-    negated-fits bottomC h q = tt
-    negated-fits (nameC t) h q = h
-    negated-fits (notC c) h q = plain-fits c h q
-    negated-fits (andC c d) h q = (negated-fits c (h .0) (q .0), negated-fits d (h .1) (q .1))
-    negated-fits (orC c d) h q = (negated-fits c (h .0) (q .0), negated-fits d (h .1) (q .1))
-    negated-fits (existsC r f u c) h q = (q .0, negated-fits c h (q .1))
-    negated-fits (forallC r f u c) h q = (q .0, negated-fits c h (q .1))
+  abbrev NfBounded : Nf → Type 0
+  NfBounded c = EachNf (λ t. t < T) Q c
 
   abbrev Waits : Pending → Type 0
-  Waits (wholeP c) = Fits c
-  Waits (guarded f c) = Fits c
+  Waits (wholeP c) = NfBounded c
+  Waits (guarded f c) = NfBounded c
 
   pendings-wait : (s : List Axiom) → AxiomNames T s → AxiomRoles Q s → All Waits (pendings s)
-  unfolding pendings axiomNf
+  unfolding pendings
   pendings-wait [] h q = tt
-  pendings-wait (a ∷ s) h q = ((negated-fits (a .left) (h .0) (q .0), plain-fits (a .right) (h .1) (q .1)), pendings-wait s (h .2) (q .2))
+  pendings-wait (a ∷ s) h q =
+      (axiom-forms (λ t. t < T) Q T (λ t l. l) a (h .0) (h .1) (q .0) (q .1), pendings-wait s (h .2) (q .2))
 
   -- a part among these
   abbrev Ok : List Part → Part → Type 0
@@ -157,7 +129,7 @@ module _ (find : Lookup) (T : ℕ) (Q : Role → Type 0) where
   Found so (some a) = Fine so (atomic a)
   Found so none = Unit
 
-  atom-found : (so : List Part) (c : Nf) → Sound so → Fits c → Found so (atom c)
+  atom-found : (so : List Part) (c : Nf) → Sound so → NfBounded c → Found so (atom c)
   unfolding atom
   atom-found so topN s h = (tt, tt)
   atom-found so bottomN s h = (tt, tt)
@@ -184,7 +156,7 @@ module _ (find : Lookup) (T : ℕ) (Q : Role → Type 0) where
   placed-keeps p so none ok s = (sound-more so (p ∷ []) s (ok (p ∷ []), tt), tt)
 
   meet-keeps : (p : Filler → Part) (g : Tag) (c : Nf) (so : List Part) (o : Option Atom) → ((l : List Part) (f : Filler) → Fine l f → Ok l (p f)) →
-      Fits c → Sound so → Found so o → Keeps so (meetOne find p g c so o)
+      NfBounded c → Sound so → Found so o → Keeps so (meetOne find p g c so o)
   unfolding meetOne
   meet-keeps p g c so (some a) ok h s f =
       placed-keeps (p (atomic a)) so (find (p (atomic a)) so) (λ more. ok (so ++ more) (atomic a) (fine-more so more (atomic a) f)) s
@@ -192,7 +164,7 @@ module _ (find : Lookup) (T : ℕ) (Q : Role → Type 0) where
       let next : Part = p (fresh (suc (length so))) in
       (sound-more so (next ∷ freshP g c ∷ []) s (ok (so ++ (next ∷ freshP g c ∷ [])) (fresh (suc (length so))) (next-fine so next g c), ((tt, tt), tt)), (h, tt))
 
-  walk-keeps : (c : Nf) (so : List Part) → Fits c → Sound so → Keeps so (walkBy find c so)
+  walk-keeps : (c : Nf) (so : List Part) → NfBounded c → Sound so → Keeps so (walkBy find c so)
   unfolding walkBy
   walk-keeps topN so h s = (keeps-none so s, tt)
   walk-keeps bottomN so h s = (keeps-none so s, tt)

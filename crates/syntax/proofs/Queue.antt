@@ -1,4 +1,5 @@
--- The queue of document 01: its bound never cuts it short, and how far going through it has come.
+-- The queue of document 01: its bound never cuts it short, how far going through it has come, and the lists that it starts from:
+-- the parts of the names, the axioms of the nodes.
 use Prim.Native.Nat.{ℕ, zero, suc, _+_, _≤_, _<_}
 use mathlib.Core.Path.{_≡_, refl, sym, ap, _∙_}
 use mathlib.Core.Option.{Option, none, some}

@@ -1,4 +1,4 @@
--- Laws of the search for a part alike: what a part's word tells, and where each record that is a restriction stands.
+-- The places of restrictions: at which part each record that is a restriction stands, and the table of places as it is filled.
 use Prim.Native.Nat.{ℕ, _+_, _*_, _≤_, _<_}
 use native.Mathlib.Omega.{arith}
 use native.Mathlib.Decide.{ℕ-discrete, decLt}

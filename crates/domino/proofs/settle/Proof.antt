@@ -1,20 +1,23 @@
 -- What is refused, or the largest stable subset.
 use borrow.Author.Needs.{needs}
-use Rattle.domino.proofs.Answers.{load-room, settle-refused, settle-whole}
+use Rattle.domino.proofs.Answers.{loads-for, load-room, settle-refused, settle-whole}
 use Rattle.domino.proofs.settle.Statement.{statement}
 use Rattle.domino.proofs.settle.Tie as tie
 
-load-for-requires : tie.Need-load-for-requires
-load-for-requires c κs = search needs
+load-requires : tie.Need-load-requires
+load-requires c κs = search needs
+
+fault-on-set-requires : tie.Need-fault-on-set-requires
+fault-on-set-requires c κs z = c .before .before .load .ensures .read z .2 .small
 
 returns : tie.Need-returns
-returns c = settle-refused _ _ _ (c .before .before .load-for .ensures) (c .if1 .taken)
+returns c = settle-refused _ _ _ (loads-for _ _ (c .before .before .before .before .load .ensures) _ _ (c .before .fault-on-set .ensures)) (c .if1 .taken)
 
 settle-set-requires : tie.Need-settle-set-requires
 settle-set-requires c κs =
-    let if1 = c .before .before .before .before .before .before .before in
-    let load = if1 .before .before in
-    load-room _ _ _ (load .load-for .ensures) (if1 .if1 .left)
+    let if1 = c .before .before .before .before .before in
+    let l = loads-for _ _ (if1 .before .before .before .before .load .ensures) _ _ (if1 .before .fault-on-set .ensures) in
+    load-room _ _ _ l (if1 .if1 .left)
 
 same-length : tie.Need-same-length
 same-length c = search needs
@@ -22,15 +25,16 @@ same-length c = search needs
 returns-2 : tie.Need-returns-2
 returns-2 c =
     let done = c .before .before in
-    let if1 = done .before .before .before .before .before .before .before .before in
-    let load = if1 .before .before in
-    settle-whole _ _ _ (load .load-for .ensures) (if1 .if1 .left) _ _ (done .settle-set .ensures)
+    let if1 = done .before .before .before .before .before .before in
+    let l = loads-for _ _ (if1 .before .before .before .before .load .ensures) _ _ (if1 .before .fault-on-set .ensures) in
+    settle-whole _ _ _ l (if1 .if1 .left) _ _ (done .settle-set .ensures)
 
 pub settle-spec : {M : Type 1} → statement M
 settle-spec =
     tie.close
     (tie.spec
-    load-for-requires
+    load-requires
+    fault-on-set-requires
     returns
     settle-set-requires
     same-length

@@ -34,8 +34,8 @@ returns c =
     fails-1 (o .args .p) (o .args .role .now) (o .args .good .now) (look (o .args .set .now)) (o .args .n) _ _ _ t
     (f1 .before .is-good .result) (f1 .before .is-good .ensures) (f1 .if1 .taken)
 
-fits-requires : tie.Need-fits-requires
-fits-requires c κs =
+right-fits-requires : tie.Need-right-fits-requires
+right-fits-requires c κs =
     let f1 = c in
     let h = f1 .before .before in
     let o = h .before .before .before .before in
@@ -55,10 +55,10 @@ returns-2 c =
     (h .before .roles-of .ensures) (h .right-of .ensures) in
     fails-2 (o .args .p) (o .args .role .now) (o .args .good .now) (look (o .args .set .now)) (o .args .n) _ _ _ t
     (f1 .before .is-good .result) (f1 .before .is-good .ensures) (f1 .if1 .left)
-    (f2 .before .fits2 .result) (f2 .before .fits2 .ensures) (f2 .if2 .taken)
+    (f2 .before .right-fits .result) (f2 .before .right-fits .ensures) (f2 .if2 .taken)
 
-fits-requires-2 : tie.Need-fits-requires-2
-fits-requires-2 c κs =
+right-fits-requires-2 : tie.Need-right-fits-requires-2
+right-fits-requires-2 c κs =
     let f2 = c in
     let f1 = f2 .before .before in
     let h = f1 .before .before in
@@ -80,8 +80,8 @@ returns-3 c =
     (h .before .roles-of .ensures) (h .right-of .ensures) in
     fails-3 (o .args .p) (o .args .role .now) (o .args .good .now) (look (o .args .set .now)) (o .args .n) _ _ _ t
     (f1 .before .is-good .result) (f1 .before .is-good .ensures) (f1 .if1 .left)
-    (f2 .before .fits2 .result) (f2 .before .fits2 .ensures) (f2 .if2 .left)
-    (f3 .before .fits3 .result) (f3 .before .fits3 .ensures) (f3 .if3 .taken)
+    (f2 .before .right-fits .result) (f2 .before .right-fits .ensures) (f2 .if2 .left)
+    (f3 .before .right-fits2 .result) (f3 .before .right-fits2 .ensures) (f3 .if3 .taken)
 
 row-defect-requires : tie.Need-row-defect-requires
 row-defect-requires c κs =
@@ -108,8 +108,8 @@ returns-4 c =
     (h .before .roles-of .ensures) (h .right-of .ensures) in
     fails-row (o .args .p) (o .args .role .now) (o .args .good .now) (look (o .args .set .now)) (o .args .n) _ _ _ t
     (f1 .before .is-good .result) (f1 .before .is-good .ensures) (f1 .if1 .left)
-    (f2 .before .fits2 .result) (f2 .before .fits2 .ensures) (f2 .if2 .left)
-    (f3 .before .fits3 .result) (f3 .before .fits3 .ensures) (f3 .if3 .left)
+    (f2 .before .right-fits .result) (f2 .before .right-fits .ensures) (f2 .if2 .left)
+    (f3 .before .right-fits2 .result) (f3 .before .right-fits2 .ensures) (f3 .if3 .left)
     (f4 .before .row-defect .result) (f4 .before .row-defect .ensures) (f4 .if4 .taken)
 
 inverse-requires : tie.Need-inverse-requires
@@ -164,8 +164,8 @@ returns-5 c =
     (h .before .roles-of .ensures) (h .right-of .ensures) in
     fails-none (o .args .p) (o .args .role .now) (o .args .good .now) (look (o .args .set .now)) (o .args .n) _ _ _ t
     (f1 .before .is-good .result) (f1 .before .is-good .ensures) (f1 .if1 .left)
-    (f2 .before .fits2 .result) (f2 .before .fits2 .ensures) (f2 .if2 .left)
-    (f3 .before .fits3 .result) (f3 .before .fits3 .ensures) (f3 .if3 .left)
+    (f2 .before .right-fits .result) (f2 .before .right-fits .ensures) (f2 .if2 .left)
+    (f3 .before .right-fits2 .result) (f3 .before .right-fits2 .ensures) (f3 .if3 .left)
     (f4 .before .row-defect .result) (f4 .before .row-defect .ensures) (f4 .if4 .left) _ _ (c .before .before .before .inverse .ensures)
     (c .before .before .index .ensures) (c .before .member .result) (c .before .member .ensures) (c .if5 .taken)
 
@@ -182,8 +182,8 @@ returns-6 c =
     (h .before .roles-of .ensures) (h .right-of .ensures) in
     fails-6 (o .args .p) (o .args .role .now) (o .args .good .now) (look (o .args .set .now)) (o .args .n) _ _ _ t
     (f1 .before .is-good .result) (f1 .before .is-good .ensures) (f1 .if1 .left)
-    (f2 .before .fits2 .result) (f2 .before .fits2 .ensures) (f2 .if2 .left)
-    (f3 .before .fits3 .result) (f3 .before .fits3 .ensures) (f3 .if3 .left)
+    (f2 .before .right-fits .result) (f2 .before .right-fits .ensures) (f2 .if2 .left)
+    (f3 .before .right-fits2 .result) (f3 .before .right-fits2 .ensures) (f3 .if3 .left)
     (f4 .before .row-defect .result) (f4 .before .row-defect .ensures) (f4 .if4 .left) _ _ (c .before .before .before .inverse .ensures)
     (c .before .before .index .ensures) (c .before .member .result) (c .before .member .ensures) (c .if5 .left)
 
@@ -196,9 +196,9 @@ defect-spec =
     right-of-requires
     is-good-requires
     returns
-    fits-requires
+    right-fits-requires
     returns-2
-    fits-requires-2
+    right-fits-requires-2
     returns-3
     row-defect-requires
     returns-4

@@ -9,12 +9,12 @@ use Rattle.records.specs.declared.Entry.{Entry}
 use Rattle.syntax.specs.Flatten.{Part}
 use Rattle.syntax.specs.Parts.{fillerOf}
 use Rattle.flattening.specs.PartTable.{Stands}
-use Rattle.flattening.proofs.PartTables.{Filled, filled-none, filled-more}
+use Rattle.flattening.proofs.PartTables.{FilledTo, filled-none, filled-more}
 use Rattle.tbox.proofs.base.fillers.Statement.{statement}
 use Rattle.tbox.proofs.base.fillers.Tie as tie
 
 abbrev Inv-loop : tie.InvT-loop
-Inv-loop parts filler₀ i₀ filler i = (i ≤ 20) × Filled (λ k v. (es : List Entry) (p : Part) → Stands es k (getD parts k 0) p → v ≡ fillerOf p) 20 filler i
+Inv-loop parts filler₀ i₀ filler i = (i ≤ 20) × FilledTo (λ k v. (es : List Entry) (p : Part) → Stands es k (getD parts k 0) p → v ≡ fillerOf p) 20 filler i
 
 abbrev μ-loop : tie.MeasureT-loop
 μ-loop parts filler₀ i₀ filler i = 20 - i

@@ -4,12 +4,12 @@ use mathlib.Core.Path.{_≡_, refl}
 use lib.ListN.{getD}
 use native.Mathlib.Omega.{arith}
 use borrow.Author.Needs.{needs}
-use Rattle.flattening.proofs.PartTables.{Filled, filled-none, filled-more}
+use Rattle.flattening.proofs.PartTables.{FilledTo, filled-none, filled-more}
 use Rattle.tbox.proofs.base.kinds.Statement.{statement}
 use Rattle.tbox.proofs.base.kinds.Tie as tie
 
 abbrev Inv-loop : tie.InvT-loop
-Inv-loop parts kind₀ i₀ kind i = (i ≤ 20) × Filled (λ k v. v ≡ getD parts k 0 % 4) 20 kind i
+Inv-loop parts kind₀ i₀ kind i = (i ≤ 20) × FilledTo (λ k v. v ≡ getD parts k 0 % 4) 20 kind i
 
 abbrev μ-loop : tie.MeasureT-loop
 μ-loop parts kind₀ i₀ kind i = 20 - i

@@ -9,13 +9,13 @@ use Rattle.syntax.specs.Flatten.{Part}
 use Rattle.syntax.specs.Parts.{roleHolds}
 use Rattle.records.specs.RecordTable.{seen}
 use Rattle.flattening.specs.PartTable.{Stands}
-use Rattle.flattening.proofs.PartTables.{Filled, filled-none, filled-more}
+use Rattle.flattening.proofs.PartTables.{FilledTo, filled-none, filled-more}
 use Rattle.tbox.proofs.BaseTables.{role-index}
 use Rattle.tbox.proofs.base.role_words.Statement.{statement}
 use Rattle.tbox.proofs.base.role_words.Tie as tie
 
 abbrev Inv-loop : tie.InvT-loop
-Inv-loop table count parts c end role₀ j₀ role j = (j ≤ end) × Filled (λ k v. (p : Part) → Stands (seen table count) (k / 4) (getD parts (k / 4) 0) p → v ≡ wordAt (roleHolds p) (k % 4)) 80 role j
+Inv-loop table count parts c end role₀ j₀ role j = (j ≤ end) × FilledTo (λ k v. (p : Part) → Stands (seen table count) (k / 4) (getD parts (k / 4) 0) p → v ≡ wordAt (roleHolds p) (k % 4)) 80 role j
 
 abbrev μ-loop : tie.MeasureT-loop
 μ-loop table count parts c end role₀ j₀ role j = end - j
