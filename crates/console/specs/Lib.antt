@@ -1,3 +1,3 @@
--- What functions tell each other:
+-- What must be believed:
 --   Input  what reading standard input answers
 pub mod Input

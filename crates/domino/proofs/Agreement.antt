@@ -35,7 +35,8 @@ use Rattle.semantics.proofs.Defects.{defect-cases, defective-is, defective-mono
 use Rattle.domino.specs.declared.Outcome.{Outcome}
 use Rattle.domino_settling.specs.declared.judging.Judgement.{Judgement}
 use Rattle.domino_conditions.specs.Tables.{fillerInLabel, view, Sized}
-use Rattle.domino.specs.Answers.{verdictOf, StrikesSet}
+use Rattle.domino.specs.Answers.{verdictOf}
+use Rattle.domino.specs.OwnSteps.{StrikesSet}
 use Rattle.domino_initial.specs.Opening.{OpensSet}
 use Rattle.domino_settling.specs.Settling.{SettlesSet, JudgesSet}
 use Rattle.domino_conditions.proofs.Rows.{few-sets}

@@ -24,7 +24,8 @@ use Rattle.domino.specs.declared.StrikeAnswer.the-variants.{Refused as N
 use Rattle.domino.specs.declared.SettleAnswer.the-variants.{Refused as NotSettled, Settled}
 use Rattle.domino.specs.declared.JudgeAnswer.the-variants.{Refused as NotJudged, Judged}
 use Rattle.domino_conditions.specs.Tables.{view, Enough}
-use Rattle.domino.specs.Answers.{onSet, saysOnSet, leavesOnSet, faultOnSet, openNumbers, openSays, openLeaves, Opens, settleNumbers, settleSays, settleLeaves, Settles, verdictNumbers, strikeNumbers, strikeSays, strikeLeaves, Strikes, StrikesSet, judgeNumbers, judgeSays, judgeLeaves, Judges}
+use Rattle.domino.specs.Answers.{onSet, saysOnSet, leavesOnSet, openNumbers, openSays, openLeaves, Opens, settleNumbers, settleSays, settleLeaves, Settles, verdictNumbers, strikeNumbers, strikeSays, strikeLeaves, Strikes, judgeNumbers, judgeSays, judgeLeaves, Judges}
+use Rattle.domino.specs.OwnSteps.{faultOnSet, StrikesSet}
 use Rattle.domino_initial.specs.Opening.{OpensSet}
 use Rattle.domino_settling.specs.Settling.{SettlesSet, JudgesSet}
 use Rattle.domino.proofs.OnSet.{on-refused, on-short, says-refusal, leaves-refusal, says-enough, leaves-enough}

@@ -1,23 +1,20 @@
 -- What open, strike, settle and judge answer and leave (01, "The calls, and what each refuses").
-use Prim.Native.Nat.{ℕ, _≤_}
+use Prim.Native.Nat.{ℕ}
 use mathlib.Core.Path.{_≡_}
 use mathlib.Core.Bool.{Bool, cond, _||_}
 use mathlib.Core.List.{List, [], _∷_}
 use lib.Dec.{eqb, ltb}
 use lib.ListN.{length}
-use Rattle.bitset.specs.Bits.{Set, look, size, wordsFor}
+use Rattle.bitset.specs.Bits.{Set, look, size}
 use Rattle.elimination.specs.Elimination.{settled}
 use Rattle.elimination.specs.Calls.{written, strikeWords, settleWords}
-use Rattle.syntax.specs.Reading.{Kb, Reading, refusal, kb, readKb, isReadRefusal}
-use Rattle.syntax.specs.Answers.{limit}
-use Rattle.semantics.specs.Dominoes.{total}
+use Rattle.syntax.specs.Reading.{Kb, Reading, refusal, kb, isReadRefusal}
 use Rattle.semantics.specs.Conditions.{View, dominoes, initial, defective, defectAt, canon, held}
 use Rattle.semantics.specs.Views.{kbView}
 use Rattle.domino.specs.declared.OpenAnswer.{OpenAnswer}
 use Rattle.domino.specs.declared.OpenAnswer.the-variants.{Refused, Opened}
 use Rattle.domino.specs.declared.Verdict.{Verdict}
 use Rattle.domino.specs.declared.Verdict.the-variants.{Absent, Struck, Kept}
-use Rattle.domino.specs.declared.Outcome.{Outcome}
 use Rattle.domino.specs.declared.StrikeAnswer.{StrikeAnswer}
 use Rattle.domino.specs.declared.StrikeAnswer.the-variants.{Refused as NotStruck, Tried}
 use Rattle.domino.specs.declared.SettleAnswer.{SettleAnswer}
@@ -124,14 +121,3 @@ pub record Settles (s : Reading) (before after : List ℕ) (r : SettleAnswer) : 
 pub record Judges (s : Reading) (before after : List ℕ) (r : JudgeAnswer) : Type 0 where
   pub answer : judgeNumbers r ≡ judgeSays s before
   pub set : after ≡ judgeLeaves s before
-
--- ---- the same for a view, and room enough
-
--- the refusal of a call on a set of so many words: the reader's, 10 if they are too few for c parts and l roles, or 0 for none
-abbrev pub faultOnSet : ℕ → ℕ → ℕ → ℕ → ℕ
-faultOnSet fault c l words = cond (eqb fault 0) (cond (ltb words (wordsFor (total c l))) 10 0) fault
-
-pub record StrikesSet (v : View) (n : ℕ) (before after : List ℕ) (r : Outcome) : Type 0 where
-  pub number : r .number ≡ n
-  pub verdict : r .verdict ≡ verdictOf v (look before) n
-  pub set : after ≡ strikeWords (dominoes v) (defective v) n before

@@ -5,8 +5,8 @@
 --   Truth     flattened axioms on labels, role expressions on role sets
 --   Reading   from bytes to a knowledge base or a refusal; the numbers of refusals
 --   Answers   what read and list marks say and leave; the limit on c + L
--- What proofs and statements about these definitions use:
 --   Parts     kind, filler and role of a part as numbers
+-- What proofs and statements about these definitions use:
 --   Bounds    numbers and roles of concepts, axioms and parts
 --   Examples  the worked sheets as rows of one table
 pub mod Concepts

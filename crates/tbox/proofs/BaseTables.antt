@@ -12,7 +12,7 @@ use borrow.Author.Tests.{eq-eqb, ne-eqb}
 use Rattle.bitset.specs.Bits.{wordAt}
 use Rattle.bitset.proofs.Laws.{wordAt-none}
 use Rattle.records.specs.declared.Entry.{Entry}
-use Rattle.tbox.specs.declared.admission.SheetCounts.{SheetCounts}
+use Rattle.tbox.specs.declared.admission.Admitted.{Admitted}
 use Rattle.tbox.specs.declared.base.Parts.{Parts}
 use Rattle.tbox.specs.declared.base.Base.{Base}
 use Rattle.records.specs.Scan.{recordAt}
@@ -20,13 +20,13 @@ use Rattle.syntax.specs.Concepts.{Role, roleBelow}
 use Rattle.syntax.specs.Normal.{Tag}
 use Rattle.syntax.specs.Flatten.{everything, nothing, nameA, Filler, atomic, fresh, Part, partAt}
 use Rattle.syntax.specs.Truth.{kbOn, roleOn}
-use Rattle.syntax.specs.Reading.{refusal, partsOf, flatsOf, readKb}
+use Rattle.syntax.specs.Reading.{partsOf, flatsOf}
 use Rattle.syntax.specs.Answers.{oddNo}
 use Rattle.syntax.specs.Parts.{freshNo, fillerNo, fillerOf, roleHolds}
 use Rattle.tbox.specs.Promise.{Loads}
 use Rattle.records.specs.RecordTable.{seen}
 use Rattle.flattening.specs.PartTable.{partWord, fillerWord, FillerAt, Restricts, Stands}
-use Rattle.tbox.specs.Admission.{kbCounted, ReadInto}
+use Rattle.tbox.specs.Admission.{kbAdmitted, Admits}
 use Rattle.flattening.proofs.PartWords.{flag-low, word-number, word-filler, stand-kind, stand-name, stand-restriction}
 use Rattle.tbox.proofs.SheetsRead.{count-is, stood}
 
@@ -94,44 +94,43 @@ role-index es ps rs n f i w p l h s =
     (rw (a, b) at (f (4 * i + w) l p)) s
 
 -- what loading a sheet answers
-pub loads-refused : (sheet : List ℕ) (n p : ℕ) → (readKb 12 sheet ≡ refusal n p) × (n ≡ 0 → ⊥) → (b : Base) →
-    Loads sheet (record { fault = n; place = p; base = b })
-loads-refused sheet n p h b = record { refused = λ _. h .0; place = λ f. absurd (h .1 f); read = λ f. absurd (h .1 f) }
+module _ (sheet table parts′ : List ℕ) (a : Admitted) (h : Admits 12 sheet table parts′ a) where
+  pub loads-refused : (a .fault ≡ 0 → ⊥) → (b : Base) → Loads sheet (record { fault = a .fault; place = a .place; base = b })
+  loads-refused z b = record { refused = λ _. h .refused z; place = λ f. absurd (z f); read = λ f. absurd (z f) }
 
-module _ (sheet table parts′ : List ℕ) (a : SheetCounts) (h : ReadInto 12 sheet table parts′ a) where
-  module _ (kind filler role good : List ℕ) where
+  module _ (z : a .fault ≡ 0) (kind filler role good : List ℕ) where
     abbrev ps : List Part
-    ps = partsOf (kbCounted table a)
+    ps = partsOf (kbAdmitted table a)
 
     abbrev es : List Entry
-    es = seen table (a .records)
+    es = seen table (a .count)
 
     abbrev ofParts : Parts
     ofParts = record { count = a .parts; roles = a .roles; kind = kind; filler = filler }
 
     at-part : (i : ℕ) → i < a .parts → Stands es i (getD parts′ i 0) (partAt ps i)
-    at-part i l = stood 12 sheet table parts′ a h i (omega (arith, count-is 12 sheet table parts′ a h))
+    at-part i l = stood 12 sheet table parts′ a h z i (omega (arith, count-is 12 sheet table parts′ a h z))
 
     pub loads-whole :
         ((i : ℕ) → i < 20 → getD kind i 0 ≡ getD parts′ i 0 % 4) →
         ((i : ℕ) (p : Part) → i < 20 → Stands es i (getD parts′ i 0) p → getD filler i 0 ≡ fillerOf p) →
         ((i w : ℕ) (p : Part) → i < a .parts → w < 4 → Stands es i (getD parts′ i 0) p → getD role (4 * i + w) 0 ≡ wordAt (roleHolds p) w) →
-        ((w : ℕ) → 64 * w < 2 ^ a .parts → getD good w 0 ≡ wordAt (kbOn (flatsOf (kbCounted table a))) w) →
+        ((w : ℕ) → 64 * w < 2 ^ a .parts → getD good w 0 ≡ wordAt (kbOn (flatsOf (kbAdmitted table a))) w) →
         Loads sheet (record { fault = 0; place = 0; base = record { names = a .names; parts = ofParts; role = role; good = good } })
     loads-whole k f r g =
         record {
           refused = λ n. absurd (n refl);
           place = λ _. refl;
           read = λ _. (
-            kbCounted table a,
-            h .read,
+            kbAdmitted table a,
+            h .read z,
             record {
               names = refl;
               roles = refl;
-              count = count-is 12 sheet table parts′ a h;
-              small = h .small;
-              kind = λ i l. k i (omega (arith, h .small)) ∙ stand-kind es i (getD parts′ i 0) (partAt ps i) (at-part i l);
-              filler = λ i l. f i (partAt ps i) (omega (arith, h .small)) (at-part i l);
+              count = count-is 12 sheet table parts′ a h z;
+              small = h .small z;
+              kind = λ i l. k i (omega (arith, h .small z)) ∙ stand-kind es i (getD parts′ i 0) (partAt ps i) (at-part i l);
+              filler = λ i l. f i (partAt ps i) (omega (arith, h .small z)) (at-part i l);
               role = λ i w l m. r i w (partAt ps i) l m (at-part i l);
               good = g;
             },

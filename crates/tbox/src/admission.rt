@@ -1,22 +1,33 @@
 // Reading a sheet into its tables of records and parts, or its refusal.
+ghost use mathlib.Core.Path.{_≡_};
 ghost use Prim.Native.Nat.{_≤_};
-ghost use Rattle.tbox.specs.Admission.{Admits};
+ghost use Rattle.tbox.specs.Admission.{foundIn, Admits};
 use flattening::parts::flatten;
+use records::Progress;
 use records::Scanned;
 use records::scan;
 
-// How many records, names, roles and parts a sheet has.
-pub struct SheetCounts {
-    pub records: usize,
+// What reading a sheet found: a fault and its place, or fault 0 and the counts of records, names, roles and parts.
+pub struct Admitted {
+    pub fault: u8,
+    pub place: usize,
+    pub count: usize,
     pub names: usize,
     pub roles: usize,
     pub parts: usize,
 }
 
-pub enum Admitted {
-    // A refusal's number and place.
-    Refused(u8, usize),
-    Read(SheetCounts),
+fn found(fault: u8, p: Progress, parts: usize) -> Admitted
+    ensures { λ r. ⌜ r ≡ foundIn fault 0 p parts ⌝ }
+{
+    Admitted {
+        fault: fault,
+        place: 0,
+        count: p.count,
+        names: p.names,
+        roles: p.roles,
+        parts: parts,
+    }
 }
 
 // Reads a sheet into a table of records and a table of parts; parts and roles together are at most the limit.
@@ -31,21 +42,23 @@ pub(crate) fn admit(
 {
     let s = scan(sheet, table);
     match s {
-        Scanned::Refused(f, place) => Admitted::Refused(f, place),
+        Scanned::Refused(f, place) => Admitted {
+            fault: f,
+            place: place,
+            count: 0,
+            names: 0,
+            roles: 0,
+            parts: 0,
+        },
         Scanned::Whole(p) => {
             let c = flatten(table, p.count, p.names, parts, limit);
             if limit < c {
-                return Admitted::Refused(9, 0);
+                return found(9, p, c);
             }
             if limit - c < p.roles {
-                return Admitted::Refused(9, 0);
+                return found(9, p, c);
             }
-            Admitted::Read(SheetCounts {
-                records: p.count,
-                names: p.names,
-                roles: p.roles,
-                parts: c,
-            })
+            found(0, p, c)
         }
     }
 }

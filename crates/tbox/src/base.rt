@@ -11,7 +11,6 @@ ghost use Rattle.tbox.specs.Promise.{Loads};
 ghost use Rattle.records.specs.RecordTable.{seen};
 ghost use Rattle.flattening.specs.PartTable.{Stands};
 ghost use Rattle.tbox.specs.PlainData.{StoodMade, FillersOf, RolesOf, GoodOf};
-use crate::admission::Admitted;
 use crate::admission::admit;
 use crate::places::places;
 use crate::truth::kb_word;
@@ -153,29 +152,27 @@ pub fn load(sheet: &[u8]) -> Loaded
     let mut table = [0u32; 255];
     let mut parts = [0u32; 20];
     let a = admit(sheet, &mut table, &mut parts, crate::LIMIT);
-    match a {
-        Admitted::Refused(n, p) => Loaded {
-            fault: n,
-            place: p,
+    if a.fault != 0 {
+        return Loaded {
+            fault: a.fault,
+            place: a.place,
             base: blank(),
+        };
+    }
+    let base = Base {
+        names: a.names,
+        parts: Parts {
+            count: a.parts,
+            roles: a.roles,
+            kind: kinds(&parts),
+            filler: fillers(&parts),
         },
-        Admitted::Read(t) => {
-            let base = Base {
-                names: t.names,
-                parts: Parts {
-                    count: t.parts,
-                    roles: t.roles,
-                    kind: kinds(&parts),
-                    filler: fillers(&parts),
-                },
-                role: role_words(&table, t.records, &parts, t.parts),
-                good: good_words(&table, t.records, t.names, &parts, t.parts),
-            };
-            Loaded {
-                fault: 0,
-                place: 0,
-                base: base,
-            }
-        }
+        role: role_words(&table, a.count, &parts, a.parts),
+        good: good_words(&table, a.count, a.names, &parts, a.parts),
+    };
+    Loaded {
+        fault: 0,
+        place: 0,
+        base: base,
     }
 }

@@ -8,7 +8,6 @@ ghost use Rattle.syntax.specs.Answers.{limit, readSays};
 ghost use Rattle.tbox.specs.Answers.{readNumbers, Lists};
 ghost use Rattle.flattening.specs.PartTable.{slotBytes};
 ghost use Rattle.tbox.specs.ListBytes.{slotsOf};
-use crate::admission::Admitted;
 use crate::admission::admit;
 
 pub mod admission;
@@ -32,10 +31,10 @@ pub fn read(sheet: &[u8]) -> ReadAnswer
     let mut table = [0u32; 255];
     let mut parts = [0u32; 20];
     let a = admit(sheet, &mut table, &mut parts, LIMIT);
-    match a {
-        Admitted::Refused(n, p) => ReadAnswer::Refused(n, p),
-        Admitted::Read(t) => ReadAnswer::Read(t.names, t.roles, t.parts),
+    if a.fault != 0 {
+        return ReadAnswer::Refused(a.fault, a.place);
     }
+    ReadAnswer::Read(a.names, a.roles, a.parts)
 }
 
 pub enum ListAnswer {
@@ -52,17 +51,15 @@ pub fn list_marks(sheet: &[u8], list: &mut [u8]) -> ListAnswer
     let mut table = [0u32; 255];
     let mut parts = [0u32; 20];
     let a = admit(sheet, &mut table, &mut parts, LIMIT);
-    match a {
-        Admitted::Refused(n, p) => ListAnswer::Refused(n, p),
-        Admitted::Read(t) => {
-            let c = t.parts;
-            if list.len() < c + c + c {
-                return ListAnswer::Refused(12, 0);
-            }
-            write_parts(&parts, c, list);
-            ListAnswer::Listed(c)
-        }
+    if a.fault != 0 {
+        return ListAnswer::Refused(a.fault, a.place);
     }
+    let c = a.parts;
+    if list.len() < c + c + c {
+        return ListAnswer::Refused(12, 0);
+    }
+    write_parts(&parts, c, list);
+    ListAnswer::Listed(c)
 }
 
 // The three bytes of one part.
