@@ -11,7 +11,7 @@ use Rattle.records.specs.Scan.{recordAt}
 use Rattle.syntax.specs.Concepts.{Role, named, inverse, notR, andR, orR, nodesOf, axiomsOf, conceptBelow, roleBelow}
 use Rattle.syntax.specs.Normal.{Tag, Nf, plain, negated}
 use Rattle.syntax.specs.Flatten.{Atom, everything, nothing, nameA, Filler, atomic, fresh, Part, nameP, freshP, existsP, forallP, partAt, flatten}
-use Rattle.syntax.specs.Answers.{limit, oddNo}
+use Rattle.syntax.specs.Answers.{oddNo}
 use Rattle.syntax.specs.Parts.{everythingNo, nothingNo, freshNo}
 
 -- the role that a record of kind 16 to 20 makes of those below it
@@ -23,6 +23,7 @@ roleKind es r k a b =
     (cond (eqb k 19) (andR (roleBelow es r a) (roleBelow es r b))
     (orR (roleBelow es r a) (roleBelow es r b)))))
 
+-- the normal form of record r, of those below a number, read plainly or under a not
 abbrev pub nfBelow : Bool → List Entry → ℕ → ℕ → Nf
 nfBelow true es n r = negated (conceptBelow es n r)
 nfBelow false es n r = plain (conceptBelow es n r)
@@ -80,7 +81,7 @@ pub record Held (limit : ℕ) (es : List Entry) (table : List ℕ) (n : ℕ) (ps
   pub count : n ≡ min (length ps) (limit + 1)
   pub stand : length ps ≤ limit → Stood es table ps
 
--- the flattened knowledge base of the axioms that records make, with so many names: its parts, its flattened axioms
+-- the parts of the flattened knowledge base of the axioms that records make, with so many names
 abbrev pub partsMade : ℕ → List Entry → List Part
 partsMade names es = flatten names (axiomsOf (nodesOf es)) .parts
 

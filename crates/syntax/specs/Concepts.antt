@@ -93,7 +93,7 @@ unfoldable pub axiomsOf : List Node → List Axiom
 axiomsOf [] = []
 axiomsOf (n ∷ ns) = axiomOf n ++ axiomsOf ns
 
--- the concept, the role and the normal form of record r, of those below a number
+-- the concept and the role of record r, of those below a number
 unfoldable pub conceptBelow : List Entry → ℕ → ℕ → Concept
 conceptBelow es n r = conceptAt (take n (nodesOf es)) r
 

@@ -7,7 +7,6 @@ use Rattle.tbox.specs.declared.admission.Admitted.{Admitted}
 use Rattle.records.specs.RecordTable.{seen}
 use Rattle.syntax.specs.Concepts.{nodesOf, axiomsOf}
 use Rattle.syntax.specs.Reading.{Kb, refusal, kb, partsOf, readKb}
-use Rattle.syntax.specs.Answers.{limit}
 use Rattle.flattening.specs.PartTable.{Held}
 
 -- the knowledge base of a table of records

@@ -12,6 +12,7 @@ use Rattle.syntax.specs.Parts.{fillerOf, roleHolds}
 use Rattle.flattening.specs.PartTable.{Stands, Stood, partsMade}
 use Rattle.tbox.specs.RestrictionPlaces.{Places}
 
+-- the flattened axioms of those that records make, with so many names
 abbrev pub flatsMade : ℕ → List Entry → List Flat
 flatsMade names es = flatten names (axiomsOf (nodesOf es)) .axioms
 

@@ -1,4 +1,4 @@
--- `domino::numbers::inverse` meets its contract.
+-- `numbers::inverse` meets its contract.
 use native.Mathlib.Omega.{arith}
 use lib.Bits.{and-le-r}
 use Prim.Native.Nat.{_/_}
