@@ -11,7 +11,7 @@ SHEETS = WORKED + [
     "030B 1000",
     "0300 0400 050101",
 ]
-FAULTS = {"0300 0400 050101": (7, 4)}
+FAULTS = {"0300 0400 050101": (7, 6)}
 
 for text in SHEETS:
     if text in FAULTS:

@@ -8,9 +8,11 @@ use mathlib.Core.List.{List, [], _∷_}
 use lib.Dec.{eqb}
 use lib.ListN.{length, drop}
 use Rattle.bitset.specs.Bits.{look, size}
-use Rattle.syntax.specs.Reading.{Kb, Reading, refusal, kb, readKb, isRecordFault, isReadRefusal}
+use Rattle.records.specs.Places.{isRecordFault, isReferenceFault}
+use Rattle.records.proofs.Places.{place-none}
+use Rattle.syntax.specs.Reading.{Kb, Reading, refusal, kb, readKb, isReadRefusal}
 use Rattle.syntax.specs.Answers.{limit}
-use Rattle.syntax.proofs.Promised.{one-more, refusal-number, refusal-place, refusal-nowhere}
+use Rattle.syntax.proofs.Refusals.{one-more, refusal-number, refusal-placed}
 use Rattle.semantics.specs.Dominoes.{Met, number}
 use Rattle.semantics.specs.Conditions.{View, dominoes, canon, canonDominoes, held}
 use Rattle.semantics.specs.Views.{kbView}
@@ -34,15 +36,13 @@ unequal a b e h = absurd (omega (arith, ap length e))
 
 module _ (sheet before : List ℕ) (n p : ℕ) (e : onSet refusal kb (readKb limit sheet) (length before) ≡ refusal n p) where
   refused-rightly : RefusedRightly sheet before before n p
-  unfolding isSetRefusal isRecordFault
+  unfolding isSetRefusal isRecordFault isReferenceFault
   refused-rightly =
       let w = on-why (readKb limit sheet) (length before) n p e in
       record {
         why = w;
         among = one-more (isReadRefusal n) n 10 .1 (⊎-elim (λ f. inl (refusal-number limit sheet f)) (λ f. inr (f .3)) w);
-        inside = λ h. ⊎-elim (λ f. refusal-place limit sheet f h)
-            (λ f. let a : isRecordFault n ≡ false = ap isRecordFault (f .3) in let z : _≡_ {A = ℕ} 0 1 = cc in absurd (omega arith)) w;
-        nowhere = λ h. ⊎-elim (λ f. refusal-nowhere limit sheet f h) (λ f. f .4) w;
+        placed = ⊎-elim (refusal-placed limit sheet) (λ f. rw (f .3, f .4) (place-none sheet 10 refl refl)) w;
         untouched = refl;
       }
 

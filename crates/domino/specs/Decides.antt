@@ -8,7 +8,8 @@ use mathlib.Core.List.{List}
 use lib.ListN.{length, drop}
 use Rattle.bitset.specs.Bits.{look, size}
 use Rattle.elimination.specs.Calls.{written}
-use Rattle.syntax.specs.Reading.{Kb, refusal, kb, readKb, isRecordFault}
+use Rattle.records.specs.Places.{Placed}
+use Rattle.syntax.specs.Reading.{Kb, refusal, kb, readKb}
 use Rattle.syntax.specs.Answers.{limit}
 use Rattle.semantics.specs.Interpretations.{Interpretation, models, Satisfiable}
 use Rattle.semantics.specs.Dominoes.{Domino, number}
@@ -26,9 +27,8 @@ pub record RefusedRightly (sheet before after : List ℕ) (n p : ℕ) : Type 0 w
       ⊎ ((k : Kb) × (readKb limit sheet ≡ kb k) × (length before < held (kbView k)) × (n ≡ 10) × (p ≡ 0))
   -- "the call comes back with the refusal number and place that document 01 fixes": one of the numbers of a call on a set,
   pub among : isSetRefusal n ≡ true
-  -- "The place is the byte where the offending record starts for 1 to 8, and 0 otherwise."
-  pub inside : isRecordFault n ≡ true → p < length sheet
-  pub nowhere : isRecordFault n ≡ false → p ≡ 0
+  -- with its place where a record starts, at a reference's byte, or 0
+  pub placed : Placed sheet n p
   -- "and every set and list is untouched"
   pub untouched : after ≡ before
 

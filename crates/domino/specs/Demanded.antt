@@ -11,8 +11,9 @@ use Rattle.bitset.specs.Bits.{look, onesOf}
 use Rattle.elimination.specs.Sets.{Sub, Same}
 use Rattle.elimination.specs.Elimination.{steps, Largest}
 use Rattle.elimination.specs.Calls.{Call, strike, settle, runWith, Passes}
-use Rattle.syntax.specs.Reading.{Kb, Reading, refusal, kb, readKb, isRecordFault, isReadRefusal}
-use Rattle.syntax.specs.Answers.{limit}
+use Rattle.records.specs.Places.{Placed}
+use Rattle.syntax.specs.Reading.{Kb, Reading, refusal, kb, partsOf, readKb, isReadRefusal}
+use Rattle.syntax.specs.Answers.{limit, readSays, listSays, listLeaves, isListRefusal}
 use Rattle.semantics.specs.Interpretations.{Interpretation, models}
 use Rattle.semantics.specs.Dominoes.{Met, Domino, number, leftOf, rightOf, inverse}
 use Rattle.semantics.specs.Conditions.{View, LargestStable, dominoes, initial, defective, defectAt, canonDominoes, held}
@@ -30,29 +31,41 @@ refusalOf says = getD says 0 0
 abbrev pub placeOf : List ℕ → ℕ
 placeOf says = getD says 1 0
 
--- what a call keeps to that refuses with the numbers `refusals`, and that says `says` and leaves `after` of the words `before`
+-- what a call keeps to that refuses with the numbers `refusals`, and that says `says` and leaves `after` of what it was lent, `before`
 pub record Refuses (refusals : ℕ → Bool) (sheet before says after : List ℕ) : Type 0 where
   -- "refuses as read does": with its number and its place
   pub read : (n p : ℕ) → readKb limit sheet ≡ refusal n p → (says ≡ n ∷ p ∷ []) × (isReadRefusal n ≡ true)
-  -- "then 10, set too short"
-  pub short : (k : Kb) → readKb limit sheet ≡ kb k → length before < held (kbView k) → says ≡ 10 ∷ 0 ∷ []
-  -- "The place is the byte where the offending record starts for 1 to 8, and 0 otherwise."
-  pub inside : isRecordFault (refusalOf says) ≡ true → placeOf says < length sheet
-  pub nowhere : isRecordFault (refusalOf says) ≡ false → placeOf says ≡ 0
+  -- the place is where a record starts for 1 to 4 and 8, a reference's byte for 5, 6, 7, 16 and 17, "and 0 otherwise"
+  pub placed : Placed sheet (refusalOf says) (placeOf says)
   -- no other number is given; 02, N5: "13 is withdrawn, its number left unused"
   pub among : (refusalOf says ≡ 0 → ⊥) → refusals (refusalOf says) ≡ true
   -- "A refusal writes nothing to any buffer"; 01's exception was 13
   pub untouched : (refusalOf says ≡ 0 → ⊥) → after ≡ before
-  -- "Further words are never touched."
   pub long : length after ≡ length before
-  pub past : (k : Kb) → readKb limit sheet ≡ kb k → drop (held (kbView k)) after ≡ drop (held (kbView k)) before
 
--- for words ws, and a number n to strike
-pub record Demand1 (sheet ws : List ℕ) (n : ℕ) : Type 0 where
-  pub opening : Refuses isSetRefusal sheet ws (openSays (readKb limit sheet) ws) (openLeaves (readKb limit sheet) ws)
-  pub striking : Refuses isStrikeRefusal sheet ws (strikeSays (readKb limit sheet) n ws) (strikeLeaves (readKb limit sheet) n ws)
-  pub settling : Refuses isSetRefusal sheet ws (settleSays (readKb limit sheet) ws) (settleLeaves (readKb limit sheet) ws)
-  pub judging : Refuses isSetRefusal sheet ws (judgeSays (readKb limit sheet) ws) (judgeLeaves (readKb limit sheet) ws)
+-- and that needs so many bytes or words, and has a number for too few
+pub record RefusesShort (refusals : ℕ → Bool) (number : ℕ) (needed : Kb → ℕ) (sheet before says after : List ℕ) : Type 0 where
+  pub refuses : Refuses refusals sheet before says after
+  -- "then 10, set too short", "then 12, list shorter than 3c bytes"
+  pub short : (k : Kb) → readKb limit sheet ≡ kb k → length before < needed k → says ≡ number ∷ 0 ∷ []
+  -- "Further words are never touched.", "bytes past 3c are kept"
+  pub past : (k : Kb) → readKb limit sheet ≡ kb k → drop (needed k) after ≡ drop (needed k) before
+
+-- a call on a set; list marks
+abbrev pub RefusesOnSet : (ℕ → Bool) → List ℕ → List ℕ → List ℕ → List ℕ → Type 0
+RefusesOnSet refusals = RefusesShort refusals 10 (λ k. held (kbView k))
+
+abbrev pub RefusesOnList : List ℕ → List ℕ → List ℕ → List ℕ → Type 0
+RefusesOnList = RefusesShort isListRefusal 12 (λ k. 3 * length (partsOf k))
+
+-- for a list of bytes, words ws, and a number n to strike; read is lent nothing
+pub record Demand1 (sheet list ws : List ℕ) (n : ℕ) : Type 0 where
+  pub reading : Refuses isReadRefusal sheet [] (readSays (readKb limit sheet)) []
+  pub listing : RefusesOnList sheet list (listSays (readKb limit sheet) list) (listLeaves (readKb limit sheet) list)
+  pub opening : RefusesOnSet isSetRefusal sheet ws (openSays (readKb limit sheet) ws) (openLeaves (readKb limit sheet) ws)
+  pub striking : RefusesOnSet isStrikeRefusal sheet ws (strikeSays (readKb limit sheet) n ws) (strikeLeaves (readKb limit sheet) n ws)
+  pub settling : RefusesOnSet isSetRefusal sheet ws (settleSays (readKb limit sheet) ws) (settleLeaves (readKb limit sheet) ws)
+  pub judging : RefusesOnSet isSetRefusal sheet ws (judgeSays (readKb limit sheet) ws) (judgeLeaves (readKb limit sheet) ws)
 
 -- ---- for a sheet that is read as s, its view v, and words ws that are enough
 

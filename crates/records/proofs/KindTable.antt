@@ -37,7 +37,7 @@ shape-rule f t k = go rows t
     go (r ∷ rs) t =
         pick (r .shape) (rowed rs k) (within (r .from) (r .to) k) (left (f (r .shape)) (every f rs) t) (go rs (right (f (r .shape)) (every f rs) t))
 
--- the table's bounds, and that a leaf, which has no first reference, has no second
+-- the table's bounds; a leaf, which has no first reference, has no second
 pub record Bounds (s : Shape) : Type 0 where
   pub sort : s .sort ≤ 3
   pub body : s .body ≤ 2
@@ -45,6 +45,9 @@ pub record Bounds (s : Shape) : Type 0 where
   pub first : s .first ≤ 2
   pub second : s .second ≤ 2
   pub leaf : s .first ≡ 0 → s .second ≡ 0
+  -- a reference is a byte of the body
+  pub one : (s .first ≡ 0 → ⊥) → 1 ≤ s .body
+  pub two : (s .second ≡ 0 → ⊥) → 2 ≤ s .body
 
 pub bounds : (k : ℕ) → Bounds (shapeOf k)
 bounds k =
@@ -55,6 +58,8 @@ bounds k =
       first = leb→le (shapeOf k .first) 2 (shape-rule (λ s. leb (s .first) 2) tt k);
       second = leb→le (shapeOf k .second) 2 (shape-rule (λ s. leb (s .second) 2) tt k);
       leaf = λ z. omega (arith, z, leb→le (shapeOf k .second) (2 * shapeOf k .first) (shape-rule (λ s. leb (s .second) (2 * s .first)) tt k));
+      one = λ n. omega (arith, n, leb→le (shapeOf k .first) (2 * shapeOf k .body) (shape-rule (λ s. leb (s .first) (2 * s .body)) tt k));
+      two = λ n. omega (arith, n, leb→le (shapeOf k .second) (2 * (shapeOf k .body - 1)) (shape-rule (λ s. leb (s .second) (2 * (s .body - 1))) tt k));
     }
 
 pub sort-low : (k : ℕ) {s : Shape} → s ≡ shapeOf k → s .sort < 4

@@ -1,5 +1,6 @@
 pub mod Entries
 pub mod Faults
 pub mod KindTable
+pub mod Places
 pub mod Prefix
 pub mod Scanning

@@ -64,7 +64,7 @@ module _ (sheet : List ℕ) (long : 766 ≤ length sheet) where
   scan-faulty zero st h = (3, st .at, rw (lt-ltb (st .at) (length sheet) (omega arith)))
   scan-faulty (suc room) st h =
       rw (lt-ltb (st .at) (length sheet) (omega arith))
-      (or-refused (recordFault sheet st) (st .at) (scan room sheet (recordAfter sheet st))
+      (or-refused (recordFault sheet st .number) (st .at + recordFault sheet st .offset) (scan room sheet (recordAfter sheet st))
       (scan-faulty room (recordAfter sheet st) (after-near sheet st room h)))
     where
       or-refused : (f p : ℕ) (x : Scanning) → (m : ℕ) × (q : ℕ) × (x ≡ refused m q) → (m : ℕ) × (q : ℕ) × (cond (eqb f 0) x (refused f p) ≡ refused m q)

@@ -6,6 +6,7 @@ use lib.ListN.{length, getD, set}
 use lib.Dec.{ltb, leb, eqb}
 use Rattle.records.specs.declared.Shape.{Shape}
 use Rattle.records.specs.declared.Entry.{Entry}
+use Rattle.records.specs.declared.Fault.{Fault}
 use Rattle.records.specs.Shapes.{shapeOf, isLeaf, isRestriction}
 
 -- what has been read: the byte where the next record starts, the records, and one more than the largest number of a name
@@ -27,7 +28,16 @@ blank = record { kind = 0; first = 0; second = 0; named = false; vacuous = false
 abbrev pub recordAt : List Entry → ℕ → Entry
 recordAt es r = getD es r blank
 
--- the first fault of two, where 0 is none
+-- a fault: its number (0: none), and how many bytes past the record's start its place is
+abbrev pub faultAt : ℕ → ℕ → Fault
+faultAt i n = record { number = n; offset = i }
+
+-- the first fault of several
+abbrev pub firstOf : List Fault → Fault
+firstOf [] = faultAt 0 0
+firstOf (f ∷ fs) = cond (eqb (f .number) 0) (firstOf fs) f
+
+-- the first of two numbers, where 0 is no fault
 abbrev pub orElse : ℕ → ℕ → ℕ
 orElse f g = cond (eqb f 0) g f
 
@@ -35,15 +45,15 @@ orElse f g = cond (eqb f 0) g f
 unfoldable pub numberFault : Shape → ℕ → ℕ
 numberFault s a = cond (eqb (s .limit) 0) 0 (cond (leb (s .limit) a) 4 0)
 
--- 6: a reference to a record of another sort than is wanted
+-- 02, N6: "6 now means a link where a class is wanted, 16 a class where a link is wanted, 17 a rule named": by the sort found
 abbrev pub sortFault : ℕ → ℕ → ℕ
-sortFault wanted found = cond (eqb found wanted) 0 6
+sortFault wanted found = cond (eqb found wanted) 0 (cond (eqb found 1) 16 (cond (eqb found 2) 6 17))
 
 -- 7: already named once and not allowed again
 abbrev pub againFault : Entry → ℕ
 againFault e = cond (e .named && not (e .leaf)) 7 0
 
--- a reference r of a wanted sort (0: no reference): 5, not an earlier record; then 6; then 7
+-- a reference r of a wanted sort (0: no reference): 5, not an earlier record; then 6, 16 or 17, which "stand where 6 stood"; then 7
 unfoldable pub referenceFault : List Entry → ℕ → ℕ → ℕ
 referenceFault es wanted r =
     cond (eqb wanted 0) 0
@@ -61,13 +71,17 @@ name es wanted r = cond (eqb wanted 0) es (set es r (naming (recordAt es r)))
 unfoldable pub emptyFault : List Entry → Shape → ℕ → ℕ
 emptyFault es s a = cond (isRestriction s && recordAt es a .vacuous) 8 0
 
--- the first fault of a record whose body is there: "4; then for each reference in turn 5, 6, 7; last 8"
-unfoldable pub bodyFault : List Entry → Shape → ℕ → ℕ → ℕ
+-- the first fault of a record whose body is there: "4; then for each reference in turn 5, 6, 7; last 8"; 02, N6: "place all
+-- faults of a reference at that reference's byte", which is the first or the second of the body
+unfoldable pub bodyFault : List Entry → Shape → ℕ → ℕ → Fault
 bodyFault es s a b =
-    orElse (numberFault s a)
-    (orElse (referenceFault es (s .first) a)
-    (orElse (referenceFault (name es (s .first) a) (s .second) b)
-    (emptyFault es s a)))
+    firstOf (
+    faultAt 0 (numberFault s a) ∷
+    faultAt 1 (referenceFault es (s .first) a) ∷
+    faultAt 2 (referenceFault (name es (s .first) a) (s .second) b) ∷
+    faultAt 0 (emptyFault es s a) ∷
+    []
+    )
 
 -- "a link and its reverse are false there, and not, and, or work as usual"
 unfoldable pub vacuousOf : List Entry → ℕ → ℕ → ℕ → Bool
@@ -114,16 +128,16 @@ abbrev pub shapeAt : List ℕ → ℕ → Shape
 shapeAt sheet at = shapeOf (getD sheet at 0)
 
 -- the fault of the record that starts at the state's place: 1, unknown kind; 2, body cut off; then the body's
-unfoldable pub recordFault : List ℕ → State → ℕ
+unfoldable pub recordFault : List ℕ → State → Fault
 recordFault sheet st =
-    cond (eqb (shapeAt sheet (st .at) .sort) 0) 1
-    (cond (ltb (length sheet - (st .at + 1)) (shapeAt sheet (st .at) .body)) 2
+    cond (eqb (shapeAt sheet (st .at) .sort) 0) (faultAt 0 1)
+    (cond (ltb (length sheet - (st .at + 1)) (shapeAt sheet (st .at) .body)) (faultAt 0 2)
     (bodyFault (st .records) (shapeAt sheet (st .at)) (bodyByte sheet (st .at) (shapeAt sheet (st .at)) 1)
     (bodyByte sheet (st .at) (shapeAt sheet (st .at)) 2)))
 
--- "the place is the byte where the offending record starts for 1 to 8"
-abbrev pub faultPlace : State → ℕ
-faultPlace st = st .at
+-- the place of a fault of the record that starts at the state's place: "Faults 1 to 4 and 8 keep their places"
+abbrev pub faultPlace : State → Fault → ℕ
+faultPlace st f = st .at + f .offset
 
 unfoldable pub recordAfter : List ℕ → State → State
 recordAfter sheet st =
@@ -140,7 +154,8 @@ unfoldable pub scan : ℕ → List ℕ → State → Scanning
 scan zero sheet st = cond (ltb (st .at) (length sheet)) (refused 3 (st .at)) (whole st)
 scan (suc room) sheet st =
     cond (ltb (st .at) (length sheet))
-    (cond (eqb (recordFault sheet st) 0) (scan room sheet (recordAfter sheet st)) (refused (recordFault sheet st) (faultPlace st)))
+    (cond (eqb (recordFault sheet st .number) 0) (scan room sheet (recordAfter sheet st))
+    (refused (recordFault sheet st .number) (faultPlace st (recordFault sheet st))))
     (whole st)
 
 unfoldable pub scanSheet : List ℕ → Scanning

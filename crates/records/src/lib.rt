@@ -2,9 +2,10 @@
 ghost use mathlib.Core.Path.{_≡_};
 ghost use Prim.Native.Nat.{_+_, _<_, _≤_, _^_, max};
 ghost use lib.ListN.{length, getD};
+ghost use lib.Dec.{eqb};
 ghost use Rattle.records.specs.Shapes.{shaped, shapeOf, isLeaf, isRestriction};
-ghost use Rattle.records.specs.Scan.{recordAt, orElse, numberFault, sortFault, againFault, referenceFault, naming, name, emptyFault, vacuousOf, namesAfter, rolesAfter, bodyByte};
-ghost use Rattle.records.specs.RecordTable.{entryOf, seen, flag, Body, Appended, Steps, Scans};
+ghost use Rattle.records.specs.Scan.{recordAt, faultAt, orElse, numberFault, sortFault, againFault, referenceFault, naming, name, emptyFault, vacuousOf, namesAfter, rolesAfter, bodyByte};
+ghost use Rattle.records.specs.RecordTable.{entryOf, seen, flag, stateOf, toldFault, Body, Appended, Steps, Scans};
 
 // What a kind byte decides. Sorts: 0 none, 1 concept, 2 role, 3 axiom.
 pub struct Shape {
@@ -41,7 +42,19 @@ pub struct Progress {
     pub roles: usize,
 }
 
-// One record: its fault's number, or the progress after it.
+// The fault of a record: its number, 0 for none, and how many bytes past the record's start its place is.
+pub struct Fault {
+    pub number: u8,
+    pub offset: u8,
+}
+
+// The test that a record fails: 0 none; 1, 2, 4 or 8 a fault of the record, by its number; or one of these, a fault of its first or of
+// its second reference, which is looked into only where reading ends. Both are above the numbers of faults.
+pub const FIRST: u8 = 101;
+
+pub const SECOND: u8 = 102;
+
+// One record: the test that it fails, or the progress after it.
 pub enum Stepped {
     Faulty(u8),
     Next(Progress),
@@ -182,10 +195,18 @@ fn number_fault(s: Shape, a: u8) -> u8
     0
 }
 
+// The fault of naming a record of a sort where another is wanted.
 fn sort_fault(wanted: u8, found: u8) -> u8
     ensures { λ f. ⌜ f ≡ sortFault wanted found ⌝ }
 {
-    if found == wanted { 0 } else { 6 }
+    if found == wanted {
+        return 0;
+    }
+    match found {
+        1 => 16,
+        2 => 6,
+        _ => 17,
+    }
 }
 
 fn again_fault(e: Entry) -> u8
@@ -200,14 +221,14 @@ fn again_fault(e: Entry) -> u8
     0
 }
 
-// The first fault of two, where 0 is none.
+// The first of two numbers, where 0 is no fault.
 fn or_else(f: u8, g: u8) -> u8
     ensures { λ r. ⌜ r ≡ orElse f g ⌝ }
 {
     if f == 0 { g } else { f }
 }
 
-// The fault of a reference to record r that must be of a sort; sort 0: there is no reference.
+// The number of the fault of a reference to record r that must be of a sort; sort 0: there is no reference.
 fn reference_fault(table: &[u32; 255], count: usize, sort: u8, r: u8) -> u8
     requires { ⌜ count ≤ 255 ⌝ }
     ensures { λ f. ⌜ f ≡ referenceFault (seen (now (table .entry)) count) sort r ⌝ }
@@ -223,6 +244,28 @@ fn reference_fault(table: &[u32; 255], count: usize, sort: u8, r: u8) -> u8
     let f = sort_fault(sort, e.sort);
     let g = again_fault(e);
     or_else(f, g)
+}
+
+// Whether that reference has no fault.
+fn is_found(table: &[u32; 255], count: usize, sort: u8, r: u8) -> bool
+    requires { ⌜ count ≤ 255 ⌝ }
+    ensures { λ b. ⌜ b ≡ eqb (referenceFault (seen (now (table .entry)) count) sort r) 0 ⌝ }
+{
+    if sort == 0 {
+        return true;
+    }
+    if count <= (r as usize) {
+        return false;
+    }
+    sized(table);
+    let e = record_at(table, count, r);
+    if e.sort != sort {
+        return false;
+    }
+    if e.named {
+        return e.leaf;
+    }
+    true
 }
 
 // Notes that record r is named, where the sort says that there is a reference.
@@ -254,24 +297,22 @@ fn empty_fault(table: &[u32; 255], count: usize, s: Shape, a: u8) -> u8
     0
 }
 
-// The fault of a record's body. The second reference sees that the first has named its record.
-fn body_fault(table: &mut [u32; 255], count: usize, s: Shape, a: u8, b: u8) -> u8
+// The test that a record's body fails. The second reference sees that the first has named its record.
+fn body_test(table: &mut [u32; 255], count: usize, s: Shape, a: u8, b: u8) -> u8
     requires { ⌜ count ≤ 255 ⌝ }
-    ensures { λ f. ⌜ Body (now (table .entry)) count s a b (now (table .exit)) f ⌝ }
+    ensures { λ c. ⌜ Body (now (table .entry)) count s a b (now (table .exit)) c ⌝ }
 {
     let last = empty_fault(table, count, s, a);
     let f = number_fault(s, a);
     if f != 0 {
         return f;
     }
-    let g = reference_fault(table, count, s.first, a);
-    if g != 0 {
-        return g;
+    if !is_found(table, count, s.first, a) {
+        return FIRST;
     }
     name_record(table, count, s.first, a);
-    let h = reference_fault(table, count, s.second, b);
-    if h != 0 {
-        return h;
+    if !is_found(table, count, s.second, b) {
+        return SECOND;
     }
     name_record(table, count, s.second, b);
     last
@@ -344,6 +385,16 @@ fn body_byte(sheet: &[u8], at: usize, s: Shape, i: u8) -> u8
     0
 }
 
+// Byte i of the sheet, 0 past its end.
+fn byte_at(sheet: &[u8], i: usize) -> u8
+    ensures { λ r. ⌜ r ≡ getD (now (sheet .entry)) i 0 ⌝ }
+{
+    if i < sheet.len() {
+        return sheet[i];
+    }
+    0
+}
+
 // Puts a record, with a body of so many bytes, at the end of the table.
 fn append(table: &mut [u32; 255], p: Progress, e: Entry, body: u8) -> Progress
     requires { ⌜ (p .count < 255) × (p .at < 2 ^ 63) × (e .sort < 4) ⌝ }
@@ -377,9 +428,9 @@ fn step_of_kind(sheet: &[u8], table: &mut [u32; 255], p: Progress, k: u8) -> Ste
     let a = body_byte(sheet, at, s, 1);
     let b = body_byte(sheet, at, s, 2);
     let v = vacuous_of(table, p.count, k, a, b);
-    let f = body_fault(table, p.count, s, a, b);
-    if f != 0 {
-        return Stepped::Faulty(f);
+    let c = body_test(table, p.count, s, a, b);
+    if c != 0 {
+        return Stepped::Faulty(c);
     }
     let e = Entry {
         kind: k,
@@ -420,6 +471,33 @@ fn step(sheet: &[u8], table: &mut [u32; 255], p: Progress) -> Stepped
     }
 }
 
+fn fault_at(offset: u8, number: u8) -> Fault
+    ensures { λ f. ⌜ f ≡ faultAt offset number ⌝ }
+{
+    Fault {
+        number: number,
+        offset: offset,
+    }
+}
+
+// The fault of the record that has failed a test, the table being as the test left it.
+fn fault_of(sheet: &[u8], table: &[u32; 255], p: Progress, c: u8) -> Fault
+    requires { ⌜ (p .count ≤ 255) × (p .at < length (now sheet)) ⌝ }
+    ensures { λ f. ⌜ f ≡ toldFault (now (sheet .entry)) (stateOf (now (table .entry)) p) c ⌝ }
+{
+    let at = p.at;
+    let s = shape_of(sheet[at]);
+    if c == FIRST {
+        let a = byte_at(sheet, at + 1);
+        return fault_at(1, reference_fault(table, p.count, s.first, a));
+    }
+    if c == SECOND {
+        let b = byte_at(sheet, at + 2);
+        return fault_at(2, reference_fault(table, p.count, s.second, b));
+    }
+    fault_at(0, c)
+}
+
 // All records.
 pub fn scan(sheet: &[u8], table: &mut [u32; 255]) -> Scanned
     ensures { λ r. ⌜ Scans (now (sheet .entry)) (now (table .exit)) r ⌝ }
@@ -437,7 +515,10 @@ pub fn scan(sheet: &[u8], table: &mut [u32; 255]) -> Scanned
         }
         let s = step(sheet, table, p);
         match s {
-            Stepped::Faulty(f) => return Scanned::Refused(f, at),
+            Stepped::Faulty(c) => {
+                let f = fault_of(sheet, table, p, c);
+                return Scanned::Refused(f.number, at + (f.offset as usize));
+            }
             Stepped::Next(q) => p = q,
         }
     }

@@ -63,10 +63,10 @@ unfolding readSays eveningLines
 refused (refusal m q) ws n p e = cc
 refused (kb k) ws n p e = absurd (omega (arith, ap length e))
 
--- "`refused 7 at 4`: number, then place"
-pub refused-printed : printed (0x03 ∷ 0x00 ∷ 0x04 ∷ 0x00 ∷ 0x05 ∷ 0x01 ∷ 0x01 ∷ []) ≡ text "refused 7 at 4\n"
+-- "number, then place"; 02, N6: "03 00 04 00 05 01 01 is 7 at 6"
+pub refused-printed : printed (0x03 ∷ 0x00 ∷ 0x04 ∷ 0x00 ∷ 0x05 ∷ 0x01 ∷ 0x01 ∷ []) ≡ text "refused 7 at 6\n"
 unfolding readAt printed refusedLine text decimal decimalIn
-refused-printed = refused _ set4096 7 4 (ap (readAt 14) reads-right)
+refused-printed = refused _ set4096 7 6 (ap (readAt 14) reads-right)
 
 -- "a set of 4,096 words, so c + L of 10 to 12 is refused with 10", and no other
 module _ (k : Kb) where

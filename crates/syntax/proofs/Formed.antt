@@ -13,8 +13,9 @@ use Rattle.bitset.specs.Bits.{bit}
 use Rattle.bitset.proofs.Laws.{bit-past}
 use Rattle.records.specs.declared.Shape.{Shape}
 use Rattle.records.specs.declared.Entry.{Entry}
+use Rattle.records.specs.declared.Fault.{Fault}
 use Rattle.records.specs.Shapes.{shapeOf, isLeaf, isRestriction}
-use Rattle.records.specs.Scan.{State, start, blank, recordAt, orElse, numberFault, sortFault, againFault, referenceFault, naming, name, emptyFault, bodyFault, vacuousOf, entryFor, namesAfter, rolesAfter, after, bodyByte, shapeAt, recordFault, recordAfter, refused, whole, scan, scanSheet}
+use Rattle.records.specs.Scan.{State, start, blank, recordAt, faultAt, firstOf, faultPlace, orElse, numberFault, sortFault, againFault, referenceFault, naming, name, emptyFault, bodyFault, vacuousOf, entryFor, namesAfter, rolesAfter, after, bodyByte, shapeAt, recordFault, recordAfter, refused, whole, scan, scanSheet}
 use Rattle.syntax.specs.Concepts.{Node, asRole, noNode, roleAt, nodeOf, nodesOf}
 use Rattle.syntax.specs.Truth.{roleOn}
 use Rattle.records.proofs.KindTable.{kind-cases, vacuous-unknown}
@@ -91,7 +92,7 @@ record Good (room : ℕ) (st : State) : Type 0 where
   names : st .names ≤ 12
   roles : st .roles ≤ 4
 
--- no fault of two
+-- no fault of two; of several; of a body's four
 neither : (f g : ℕ) → orElse f g ≡ 0 → (f ≡ 0) × (g ≡ 0)
 neither f g = go (eqb f 0) refl
   where
@@ -99,9 +100,33 @@ neither f g = go (eqb f 0) refl
     go true q p = (eqb-true f 0 q, p)
     go false q p = absurd (eqb-false f 0 q p)
 
+none-first : (i f : ℕ) (fs : List Fault) → firstOf (faultAt i f ∷ fs) .number ≡ 0 → (f ≡ 0) × (firstOf fs .number ≡ 0)
+none-first i f fs = go (eqb f 0) refl
+  where
+    go : (b : Bool) → eqb f 0 ≡ b → cond b (firstOf fs) (faultAt i f) .number ≡ 0 → (f ≡ 0) × (firstOf fs .number ≡ 0)
+    go true q p = (eqb-true f 0 q, p)
+    go false q p = absurd (eqb-false f 0 q p)
+
+none-of-body : (f g h l : ℕ) → firstOf (faultAt 0 f ∷ faultAt 1 g ∷ faultAt 2 h ∷ faultAt 0 l ∷ []) .number ≡ 0 →
+    (f ≡ 0) × (g ≡ 0) × (h ≡ 0) × (l ≡ 0)
+none-of-body f g h l p =
+    let w = none-first 0 f (faultAt 1 g ∷ faultAt 2 h ∷ faultAt 0 l ∷ []) p in
+    let x = none-first 1 g (faultAt 2 h ∷ faultAt 0 l ∷ []) (w .1) in
+    let y = none-first 2 h (faultAt 0 l ∷ []) (x .1) in
+    (w .0, x .0, y .0, none-first 0 l [] (y .1) .0)
+
 -- each record has the sort of its kind
 abbrev Sorted : List Entry → Type 0
 Sorted es = (r : ℕ) → r < length es → recordAt es r .sort ≡ shapeOf (recordAt es r .kind) .sort
+
+sort-same : (wanted found : ℕ) → sortFault wanted found ≡ 0 → found ≡ wanted
+sort-same wanted found = go (eqb found wanted) refl (eqb found 1) (eqb found 2)
+  where
+    go : (a : Bool) → eqb found wanted ≡ a → (b c : Bool) → _≡_ {A = ℕ} (cond a 0 (cond b 16 (cond c 6 17))) 0 → found ≡ wanted
+    go true q b c p = eqb-true found wanted q
+    go false q true c p = absurd (omega arith)
+    go false q false true p = absurd (omega arith)
+    go false q false false p = absurd (omega arith)
 
 reference-finds : (es xs : List Entry) → bare es ≡ xs → Sorted xs → (wanted r : ℕ) → referenceFault es wanted r ≡ 0 → Finds xs (length xs) wanted r
 unfolding referenceFault
@@ -111,14 +136,10 @@ reference-finds es xs x s wanted r = go (eqb wanted 0) refl (leb (length es) r) 
         cond b 0 (cond c 5 (orElse (sortFault wanted (recordAt es r .sort)) (againFault (recordAt es r)))) ≡ 0 → Finds xs (length xs) wanted r
     go true q c k p n = absurd (n (eqb-true wanted 0 q))
     go false q true k p n = absurd (omega arith)
-    go false q false k p n = (within, sym (s r within) ∙ rw (← x, bare-at es r) (same (eqb (recordAt es r .sort) wanted) refl (neither _ _ p .0)))
+    go false q false k p n = (within, sym (s r within) ∙ rw (← x, bare-at es r) (sort-same wanted (recordAt es r .sort) (neither _ _ p .0)))
       where
         within : r < length xs
         within = rw (← x, length-map) (leb-false (length es) r k)
-
-        same : (b : Bool) → eqb (recordAt es r .sort) wanted ≡ b → _≡_ {A = ℕ} (cond b 0 6) 0 → recordAt es r .sort ≡ wanted
-        same true q p = eqb-true _ _ q
-        same false q p = absurd (omega arith)
 
 empty-restricted : (es xs : List Entry) → bare es ≡ xs → (s : Shape) (a : ℕ) → emptyFault es s a ≡ 0 → isRestriction s ≡ true → recordAt xs a .vacuous ≡ false
 unfolding emptyFault
@@ -133,22 +154,22 @@ unfolding vacuousOf
 vacuous-bare es xs x k a b = rw (← x, bare-at es a, bare-at es b)
 
 -- a record without fault, after those that were read
-new-right : (es xs : List Entry) → bare es ≡ xs → Sorted xs → (k a b : ℕ) → (shapeOf k .sort ≡ 0 → ⊥) → bodyFault es (shapeOf k) a b ≡ 0 → Right xs (entryFor es k a b)
+new-right : (es xs : List Entry) → bare es ≡ xs → Sorted xs → (k a b : ℕ) → (shapeOf k .sort ≡ 0 → ⊥) → bodyFault es (shapeOf k) a b .number ≡ 0 → Right xs (entryFor es k a b)
 unfolding bodyFault
 new-right es xs x s k a b n p =
-    let p1 = neither _ _ p in
-    let p2 = neither _ _ (p1 .1) in
-    let p3 = neither _ _ (p2 .1) in
+    let w =
+    none-of-body (numberFault (shapeOf k) a) (referenceFault es (shapeOf k .first) a)
+    (referenceFault (name es (shapeOf k .first) a) (shapeOf k .second) b) (emptyFault es (shapeOf k) a) p in
     record {
       formed =
           record {
             sort = refl;
             leaf = refl;
             known = n;
-            number = p1 .0;
-            first = reference-finds es xs x s (shapeOf k .first) a (p2 .0);
-            second = reference-finds (name es (shapeOf k .first) a) xs (name-bare es (shapeOf k .first) a ∙ x) s (shapeOf k .second) b (p3 .0);
-            restricted = empty-restricted es xs x (shapeOf k) a (p3 .1);
+            number = w .0;
+            first = reference-finds es xs x s (shapeOf k .first) a (w .1);
+            second = reference-finds (name es (shapeOf k .first) a) xs (name-bare es (shapeOf k .first) a ∙ x) s (shapeOf k .second) b (w .2);
+            restricted = empty-restricted es xs x (shapeOf k) a (w .3);
           };
       vacuous = vacuous-bare es xs x k a b;
     }
@@ -207,7 +228,7 @@ bare-after st k a b =
     ap (λ (l : List Entry). l ++ (entryFor (st .records) k a b ∷ []))
     (name-bare (name (st .records) (shapeOf k .first) a) (shapeOf k .second) b ∙ name-bare (st .records) (shapeOf k .first) a)
 
-after-good : (room : ℕ) (st : State) (k a b : ℕ) → (shapeOf k .sort ≡ 0 → ⊥) → bodyFault (st .records) (shapeOf k) a b ≡ 0 → Good (suc room) st → Good room (after st k a b)
+after-good : (room : ℕ) (st : State) (k a b : ℕ) → (shapeOf k .sort ≡ 0 → ⊥) → bodyFault (st .records) (shapeOf k) a b .number ≡ 0 → Good (suc room) st → Good room (after st k a b)
 unfolding after
 after-good room st k a b n p g =
     record {
@@ -242,7 +263,7 @@ after-good room st k a b n p g =
     now : Counted names roles e
     now = record { name = more .1; named = most .1; inverse = most .2 }
 
-record-good : (sheet : List ℕ) (room : ℕ) (st : State) → recordFault sheet st ≡ 0 → Good (suc room) st → Good room (recordAfter sheet st)
+record-good : (sheet : List ℕ) (room : ℕ) (st : State) → recordFault sheet st .number ≡ 0 → Good (suc room) st → Good room (recordAfter sheet st)
 unfolding recordFault recordAfter
 record-good sheet room st p g = go (eqb (shape .sort) 0) refl (ltb (length sheet - (st .at + 1)) (shape .body)) p
   where
@@ -250,14 +271,14 @@ record-good sheet room st p g = go (eqb (shape .sort) 0) refl (ltb (length sheet
     shape = shapeAt sheet (st .at)
 
     go : (b : Bool) → eqb (shape .sort) 0 ≡ b → (c : Bool) →
-        cond b 1 (cond c 2 (bodyFault (st .records) shape (bodyByte sheet (st .at) shape 1) (bodyByte sheet (st .at) shape 2))) ≡ 0 →
+        cond b (faultAt 0 1) (cond c (faultAt 0 2) (bodyFault (st .records) shape (bodyByte sheet (st .at) shape 1) (bodyByte sheet (st .at) shape 2))) .number ≡ 0 →
         Good room (after st (getD sheet (st .at) 0) (bodyByte sheet (st .at) shape 1) (bodyByte sheet (st .at) shape 2))
     go true q c p = absurd (omega arith)
     go false q true p = absurd (omega arith)
     go false q false p = after-good room st (getD sheet (st .at) 0) (bodyByte sheet (st .at) shape 1) (bodyByte sheet (st .at) shape 2) (eqb-false (shape .sort) 0 q) p g
 
 -- what each record without fault keeps holds at the end
-scan-keeps : (P : ℕ → State → Type 0) (sheet : List ℕ) → ((room : ℕ) (st : State) → recordFault sheet st ≡ 0 → P (suc room) st → P room (recordAfter sheet st)) →
+scan-keeps : (P : ℕ → State → Type 0) (sheet : List ℕ) → ((room : ℕ) (st : State) → recordFault sheet st .number ≡ 0 → P (suc room) st → P room (recordAfter sheet st)) →
     (room : ℕ) (st u : State) → P room st → scan room sheet st ≡ whole u → (n : ℕ) × P n u
 unfolding scan
 scan-keeps P sheet f zero st u h e = go (ltb (st .at) (length sheet)) e
@@ -266,11 +287,12 @@ scan-keeps P sheet f zero st u h e = go (ltb (st .at) (length sheet)) e
     go true p = let z : _≡_ {A = ℕ} 0 1 = cc in absurd (omega arith)
     go false p = let q : st ≡ u = cc in (zero, rw q at h)
 scan-keeps P sheet f (suc room) st u h e =
-    go (ltb (st .at) (length sheet)) (eqb (recordFault sheet st) 0) refl (λ q. scan-keeps P sheet f room (recordAfter sheet st) u (f room st q h)) e
+    go (ltb (st .at) (length sheet)) (eqb (recordFault sheet st .number) 0) refl (λ q. scan-keeps P sheet f room (recordAfter sheet st) u (f room st q h)) e
   where
-    go : (b c : Bool) → eqb (recordFault sheet st) 0 ≡ c → (recordFault sheet st ≡ 0 → scan room sheet (recordAfter sheet st) ≡ whole u → (n : ℕ) × P n u) →
-        cond b (cond c (scan room sheet (recordAfter sheet st)) (refused (recordFault sheet st) (st .at))) (whole st) ≡ whole u → (n : ℕ) × P n u
-    go true true t i p = i (eqb-true (recordFault sheet st) 0 t) p
+    go : (b c : Bool) → eqb (recordFault sheet st .number) 0 ≡ c → (recordFault sheet st .number ≡ 0 → scan room sheet (recordAfter sheet st) ≡ whole u → (n : ℕ) × P n u) →
+        cond b (cond c (scan room sheet (recordAfter sheet st)) (refused (recordFault sheet st .number) (faultPlace st (recordFault sheet st)))) (whole st) ≡ whole u →
+        (n : ℕ) × P n u
+    go true true t i p = i (eqb-true (recordFault sheet st .number) 0 t) p
     go true false t i p = let z : _≡_ {A = ℕ} 0 1 = cc in absurd (omega arith)
     go false c t i p = let q : st ≡ u = cc in (suc room, rw q at h)
 

@@ -2,9 +2,11 @@ pub mod Alike
 pub mod Bounded
 pub mod Fewer
 pub mod Formed
+pub mod ListBytes
 pub mod NormalForm
 pub mod Prefix
 pub mod Promised
 pub mod Queue
+pub mod Refusals
 pub mod Trees
 pub mod Worked

@@ -1,25 +1,21 @@
--- What the layers above may use of a sheet that is read, and of a refusal.
+-- What the layers above may use of a sheet that is read.
 use Prim.Native.Nat.{ℕ, zero, suc, _+_, _-_, _≤_, _<_}
 use native.Mathlib.Omega.{arith}
 use native.Mathlib.Decide.{ℕ-discrete}
-use mathlib.Core.Path.{_≡_, refl, ap, _∙_}
-use mathlib.Core.Logic.{_⊎_, inl, inr, ⊎-elim, _↔_}
-use mathlib.Core.Bool.{Bool, true, false, cond, not, _&&_, _||_}
+use mathlib.Core.Path.{_≡_, refl, _∙_}
+use mathlib.Core.Bool.{Bool, true, false, cond}
 use mathlib.Core.Option.{Option, none, some}
 use mathlib.Core.List.{List, [], _∷_, _++_, append-assoc, append-nil}
 use lib.ListN.{length, length-append, List·getD-append}
 use lib.Seq.{getD-at}
-use lib.Dec.{eqb, leb, ltb}
-use borrow.Author.Tests.{eqb-true, eqb-false, eq-eqb, leb-true, le-leb, ltb-true}
-use Rattle.records.specs.declared.Shape.{Shape}
-use Rattle.records.specs.declared.Entry.{Entry}
-use Rattle.records.specs.Shapes.{isRestriction}
-use Rattle.records.specs.Scan.{State, start, recordAt, orElse, numberFault, sortFault, againFault, referenceFault, name, emptyFault, bodyFault, bodyByte, shapeAt, recordFault, recordAfter, Scanning, refused, whole, scan, scanSheet}
+use lib.Dec.{leb}
+use borrow.Author.Tests.{leb-true}
+use Rattle.records.specs.Scan.{State, Scanning, refused, whole, scanSheet}
 use Rattle.syntax.specs.Concepts.{Role, Axiom}
 use Rattle.syntax.specs.Normal.{Tag, Nf, topN, bottomN, nameN, notN, andN, orN, existsN, forallN}
 use Rattle.syntax.specs.Flatten.{Atom, everything, nothing, nameA, Filler, atomic, fresh, Part, nameP, freshP, existsP, forallP, atom, Pending, whole as wholeP, guarded, Walked, Lookup, shared, placed, meetOne, walkBy, walkPendingBy, runBy, weights, nameParts, pendings, flattenBy, noPart, partAt}
 use Rattle.syntax.specs.Truth.{roleOn}
-use Rattle.syntax.specs.Reading.{Kb, refusal, kb, kbOf, partsOf, admit, reading, readKb, isRecordFault, isReadRefusal}
+use Rattle.syntax.specs.Reading.{Kb, refusal, kb, kbOf, partsOf, admit, reading, readKb}
 use Rattle.syntax.specs.Bounds.{All, RolesBelow, AxiomNames, AxiomRoles, AxiomsBelow, PartRole, PartFiller, FillerLow, PartLow, FillerPlain, PartPlain}
 use Rattle.syntax.proofs.NormalForm.{EachNf, axiom-forms}
 use Rattle.syntax.proofs.Formed.{read-few}
@@ -259,145 +255,3 @@ module _ (limit : ℕ) (sheet : List ℕ) {k : Kb} (e : readKb limit sheet ≡ k
 
   pub kb-part-restricted : (i : ℕ) → PartRole (λ u. roleOn u 0 ≡ false) (partAt (partsOf k) i)
   kb-part-restricted = parts-roles shared (k .names) (λ u. roleOn u 0 ≡ false) (k .axioms) (kb-bounded .names) kb-restricted
-
--- ---- refusals
-
-apart : {b : Bool} → b ≡ true → b ≡ false → ⊥
-apart p q = let z : _≡_ {A = ℕ} 0 1 = cc in omega arith
-
--- the numbers are those of an interval
-pub record-faults : (n : ℕ) → (isRecordFault n ≡ true) ↔ ((1 ≤ n) × (n ≤ 8))
-unfolding isRecordFault
-record-faults n = (λ e. split (leb 1 n) (leb n 8) refl refl e, λ h. rw (le-leb 1 n (h .0), le-leb n 8 (h .1)))
-  where
-    split : (a b : Bool) → leb 1 n ≡ a → leb n 8 ≡ b → (a && b) ≡ true → (1 ≤ n) × (n ≤ 8)
-    split true true p q e = (leb-true 1 n p, leb-true n 8 q)
-    split true false p q e = absurd (apart e refl)
-    split false b p q e = absurd (apart e refl)
-
--- one number more
-pub one-more : (b : Bool) (n m : ℕ) → ((b || eqb n m) ≡ true) ↔ ((b ≡ true) ⊎ (n ≡ m))
-one-more true n m = (λ e. inl refl, λ h. refl)
-one-more false n m = (λ e. inr (eqb-true n m e), ⊎-elim (λ e. absurd (apart e refl)) (eq-eqb n m))
-
-pub one-wider : (P : ℕ → Bool) (last n : ℕ) → ((P n ≡ true) ↔ ((1 ≤ n) × (n ≤ last))) → ((P n || eqb n (suc last)) ≡ true) ↔ ((1 ≤ n) × (n ≤ suc last))
-one-wider P last n f = (
-  λ e. ⊎-elim (λ g. let r = f .0 g in (r .0, omega (arith, r .1))) (λ g. (omega arith, omega arith)) (one-more (P n) n (suc last) .0 e),
-  λ h. one-more (P n) n (suc last) .1 (pick (ℕ-discrete n (suc last)) h),
-)
-  where
-    pick : Dec (n ≡ suc last) → (1 ≤ n) × (n ≤ suc last) → (P n ≡ true) ⊎ (n ≡ suc last)
-    pick (yes q) h = inr q
-    pick (no q) h = inl (f .1 (h .0, omega (arith, h .1)))
-
-pub read-refusals : (n : ℕ) → (isReadRefusal n ≡ true) ↔ ((1 ≤ n) × (n ≤ 9))
-unfolding isReadRefusal
-read-refusals n = one-wider isRecordFault 8 n (record-faults n)
-
--- no fault, or a fault of a record
-abbrev OrNone : ℕ → Type 0
-OrNone f = (f ≡ 0 → ⊥) → isRecordFault f ≡ true
-
-either-fault : {x y : ℕ} (b : Bool) → OrNone x → OrNone y → OrNone (cond b x y)
-either-fault true h k = h
-either-fault false h k = k
-
-no-fault : OrNone 0
-no-fault f = absurd (f refl)
-
-number-fault : (s : Shape) (a : ℕ) → OrNone (numberFault s a)
-unfolding numberFault isRecordFault
-number-fault s a = either-fault (eqb (s .limit) 0) no-fault (either-fault (leb (s .limit) a) (λ f. refl) no-fault)
-
--- the first fault of two
-else-fault : (f g : ℕ) → OrNone f → OrNone g → OrNone (orElse f g)
-else-fault f g h k = either-fault (eqb f 0) k h
-
-sort-fault : (wanted found : ℕ) → OrNone (sortFault wanted found)
-unfolding isRecordFault
-sort-fault wanted found = either-fault (eqb found wanted) no-fault (λ f. refl)
-
-again-fault : (e : Entry) → OrNone (againFault e)
-unfolding isRecordFault
-again-fault e = either-fault (e .named && not (e .leaf)) (λ f. refl) no-fault
-
-reference-fault : (es : List Entry) (wanted r : ℕ) → OrNone (referenceFault es wanted r)
-unfolding referenceFault isRecordFault
-reference-fault es wanted r =
-    either-fault (eqb wanted 0) no-fault
-    (either-fault (leb (length es) r) (λ f. refl)
-    (else-fault (sortFault wanted (recordAt es r .sort)) (againFault (recordAt es r)) (sort-fault wanted (recordAt es r .sort)) (again-fault (recordAt es r))))
-
-empty-fault : (es : List Entry) (s : Shape) (a : ℕ) → OrNone (emptyFault es s a)
-unfolding emptyFault isRecordFault
-empty-fault es s a = either-fault (isRestriction s && recordAt es a .vacuous) (λ f. refl) no-fault
-
-body-fault : (es : List Entry) (s : Shape) (a b : ℕ) → OrNone (bodyFault es s a b)
-unfolding bodyFault
-body-fault es s a b =
-    else-fault _ _ (number-fault s a)
-    (else-fault _ _ (reference-fault es (s .first) a)
-    (else-fault _ _ (reference-fault (name es (s .first) a) (s .second) b)
-    (empty-fault es s a)))
-
-record-fault : (sheet : List ℕ) (st : State) → OrNone (recordFault sheet st)
-unfolding recordFault isRecordFault
-record-fault sheet st =
-    let s : Shape = shapeAt sheet (st .at) in
-    either-fault (eqb (s .sort) 0) (λ f. refl)
-    (either-fault (ltb (length sheet - (st .at + 1)) (s .body)) (λ f. refl)
-    (body-fault (st .records) s (bodyByte sheet (st .at) s 1) (bodyByte sheet (st .at) s 2)))
-
--- a fault, at a place in the sheet
-abbrev Fault : List ℕ → ℕ → ℕ → Type 0
-Fault sheet n p = (isRecordFault n ≡ true) × (p < length sheet)
-
-scan-fault : (room : ℕ) (sheet : List ℕ) (st : State) (n p : ℕ) → scan room sheet st ≡ refused n p → Fault sheet n p
-unfolding scan isRecordFault
-scan-fault zero sheet st n p e = go (ltb (st .at) (length sheet)) refl e
-  where
-    go : (b : Bool) → ltb (st .at) (length sheet) ≡ b → cond b (refused 3 (st .at)) (whole st) ≡ refused n p → Fault sheet n p
-    go true q h =
-        let i : n ≡ 3 = cc in
-        let j : p ≡ st .at = cc in
-        (ap isRecordFault i, omega (arith, ltb-true (st .at) (length sheet) q))
-    go false q h = let z : _≡_ {A = ℕ} 0 1 = cc in absurd (omega arith)
-scan-fault (suc room) sheet st n p e =
-    go (ltb (st .at) (length sheet)) refl (eqb (recordFault sheet st) 0) refl (scan-fault room sheet (recordAfter sheet st) n p) e
-  where
-    go : (b : Bool) → ltb (st .at) (length sheet) ≡ b → (c : Bool) → eqb (recordFault sheet st) 0 ≡ c →
-        (scan room sheet (recordAfter sheet st) ≡ refused n p → Fault sheet n p) →
-        cond b (cond c (scan room sheet (recordAfter sheet st)) (refused (recordFault sheet st) (st .at))) (whole st) ≡ refused n p → Fault sheet n p
-    go true q true r f h = f h
-    go true q false r f h =
-        let i : n ≡ recordFault sheet st = cc in
-        let j : p ≡ st .at = cc in
-        (ap isRecordFault i ∙ record-fault sheet st (eqb-false (recordFault sheet st) 0 r), omega (arith, ltb-true (st .at) (length sheet) q))
-    go false q c r f h = let z : _≡_ {A = ℕ} 0 1 = cc in absurd (omega arith)
-
-module _ (limit : ℕ) (sheet : List ℕ) {n p : ℕ} (e : readKb limit sheet ≡ refusal n p) where
-  -- a refusal is a fault of a record, or 9
-  pub refusal-cases : ((isRecordFault n ≡ true) × (p < length sheet)) ⊎ ((n ≡ 9) × (p ≡ 0))
-  unfolding readKb reading admit scanSheet
-  refusal-cases = go (scanSheet sheet) refl e
-    where
-      nine : (b : Bool) (k : Kb) → cond b (kb k) (refusal 9 0) ≡ refusal n p → (n ≡ 9) × (p ≡ 0)
-      nine true k h = let z : _≡_ {A = ℕ} 0 1 = cc in absurd (omega arith)
-      nine false k h = (cc, cc)
-
-      go : (s : Scanning) → scanSheet sheet ≡ s → reading limit s ≡ refusal n p → Fault sheet n p ⊎ ((n ≡ 9) × (p ≡ 0))
-      go (refused m r) q h =
-          let i : refused m r ≡ refused n p = cc in
-          inl (scan-fault 255 sheet start n p (q ∙ i))
-      go (whole st) q h = inr (nine (leb (length (partsOf (kbOf st)) + st .roles) limit) (kbOf st) h)
-
-  pub refusal-number : isReadRefusal n ≡ true
-  unfolding isReadRefusal
-  refusal-number = one-more (isRecordFault n) n 9 .1 (⊎-elim (λ f. inl (f .0)) (λ f. inr (f .0)) refusal-cases)
-
-  pub refusal-place : isRecordFault n ≡ true → p < length sheet
-  unfolding isRecordFault
-  refusal-place h = ⊎-elim (λ f. f .1) (λ f. absurd (apart h (ap isRecordFault (f .0)))) refusal-cases
-
-  pub refusal-nowhere : isRecordFault n ≡ false → p ≡ 0
-  refusal-nowhere h = ⊎-elim (λ f. absurd (apart (f .0) h)) (λ f. f .1) refusal-cases

@@ -1,12 +1,12 @@
 -- What read and list marks say and leave (01, "The calls, and what each refuses").
 use Prim.Native.Nat.{ℕ, _*_}
-use mathlib.Core.Bool.{cond}
+use mathlib.Core.Bool.{Bool, cond, _||_}
 use mathlib.Core.List.{List, [], _∷_, _++_}
 use lib.ListN.{length, drop}
-use lib.Dec.{ltb}
+use lib.Dec.{ltb, eqb}
 use Rattle.syntax.specs.Normal.{Tag}
 use Rattle.syntax.specs.Flatten.{Part, nameP, freshP, existsP, forallP}
-use Rattle.syntax.specs.Reading.{Reading, refusal, kb, partsOf}
+use Rattle.syntax.specs.Reading.{Reading, refusal, kb, partsOf, isReadRefusal}
 
 -- "c + L is at most 12"
 abbrev pub limit : ℕ
@@ -36,6 +36,10 @@ bytesOf (p ∷ ps) = partBytes p ++ bytesOf ps
 unfoldable pub listSays : Reading → List ℕ → List ℕ
 listSays (refusal n p) l = n ∷ p ∷ []
 listSays (kb k) l = cond (ltb (length l) (3 * length (partsOf k))) (12 ∷ 0 ∷ []) (0 ∷ 0 ∷ length (partsOf k) ∷ [])
+
+-- the numbers it refuses with
+unfoldable pub isListRefusal : ℕ → Bool
+isListRefusal n = isReadRefusal n || eqb n 12
 
 -- "it writes three bytes for each mark; bytes past 3c are kept"; a refusal writes nothing
 unfoldable pub listLeaves : Reading → List ℕ → List ℕ

@@ -89,6 +89,96 @@ refuses n p = n ∷ p ∷ []
 abbrev full : ℕ → List ℕ
 full n = replicate n 0xff
 
+-- read refuses, and list marks likewise
+abbrev faulty : List ℕ → ℕ → ℕ → Row
+faulty s n p = row s (refuses n p) (full 2) (refuses n p) (full 2)
+
+-- 02, N6. A class (record 0), a link (1), a not of each (2, 3), a not of each of these (4, 5), a rule (6); then, at byte 14, one more
+abbrev then : List ℕ → List ℕ
+then r =
+    0x01 ∷ 0x10 ∷ 0x00 ∷ 0x04 ∷ 0x00 ∷ 0x12 ∷ 0x01 ∷ 0x04 ∷ 0x02 ∷ 0x12 ∷ 0x03 ∷ 0x20 ∷ 0x00 ∷ 0x00 ∷ r
+
+-- each fault at each reference of each kind that has any; then records with two faults
+abbrev references : List Row
+references =
+    faulty (then (0x04 ∷ 0x07 ∷ [])) 5 15 ∷
+    faulty (then (0x04 ∷ 0x01 ∷ [])) 6 15 ∷
+    faulty (then (0x04 ∷ 0x06 ∷ [])) 17 15 ∷
+    faulty (then (0x04 ∷ 0x02 ∷ [])) 7 15 ∷
+    faulty (then (0x05 ∷ 0x07 ∷ 0x00 ∷ [])) 5 15 ∷
+    faulty (then (0x05 ∷ 0x01 ∷ 0x00 ∷ [])) 6 15 ∷
+    faulty (then (0x05 ∷ 0x06 ∷ 0x00 ∷ [])) 17 15 ∷
+    faulty (then (0x05 ∷ 0x02 ∷ 0x00 ∷ [])) 7 15 ∷
+    faulty (then (0x05 ∷ 0x00 ∷ 0x07 ∷ [])) 5 16 ∷
+    faulty (then (0x05 ∷ 0x00 ∷ 0x01 ∷ [])) 6 16 ∷
+    faulty (then (0x05 ∷ 0x00 ∷ 0x06 ∷ [])) 17 16 ∷
+    faulty (then (0x05 ∷ 0x00 ∷ 0x02 ∷ [])) 7 16 ∷
+    faulty (then (0x06 ∷ 0x07 ∷ 0x00 ∷ [])) 5 15 ∷
+    faulty (then (0x06 ∷ 0x01 ∷ 0x00 ∷ [])) 6 15 ∷
+    faulty (then (0x06 ∷ 0x06 ∷ 0x00 ∷ [])) 17 15 ∷
+    faulty (then (0x06 ∷ 0x02 ∷ 0x00 ∷ [])) 7 15 ∷
+    faulty (then (0x06 ∷ 0x00 ∷ 0x07 ∷ [])) 5 16 ∷
+    faulty (then (0x06 ∷ 0x00 ∷ 0x01 ∷ [])) 6 16 ∷
+    faulty (then (0x06 ∷ 0x00 ∷ 0x06 ∷ [])) 17 16 ∷
+    faulty (then (0x06 ∷ 0x00 ∷ 0x02 ∷ [])) 7 16 ∷
+    faulty (then (0x07 ∷ 0x07 ∷ 0x00 ∷ [])) 5 15 ∷
+    faulty (then (0x07 ∷ 0x00 ∷ 0x00 ∷ [])) 16 15 ∷
+    faulty (then (0x07 ∷ 0x06 ∷ 0x00 ∷ [])) 17 15 ∷
+    faulty (then (0x07 ∷ 0x03 ∷ 0x00 ∷ [])) 7 15 ∷
+    faulty (then (0x07 ∷ 0x01 ∷ 0x07 ∷ [])) 5 16 ∷
+    faulty (then (0x07 ∷ 0x01 ∷ 0x01 ∷ [])) 6 16 ∷
+    faulty (then (0x07 ∷ 0x01 ∷ 0x06 ∷ [])) 17 16 ∷
+    faulty (then (0x07 ∷ 0x01 ∷ 0x02 ∷ [])) 7 16 ∷
+    faulty (then (0x08 ∷ 0x07 ∷ 0x00 ∷ [])) 5 15 ∷
+    faulty (then (0x08 ∷ 0x00 ∷ 0x00 ∷ [])) 16 15 ∷
+    faulty (then (0x08 ∷ 0x06 ∷ 0x00 ∷ [])) 17 15 ∷
+    faulty (then (0x08 ∷ 0x03 ∷ 0x00 ∷ [])) 7 15 ∷
+    faulty (then (0x08 ∷ 0x01 ∷ 0x07 ∷ [])) 5 16 ∷
+    faulty (then (0x08 ∷ 0x01 ∷ 0x01 ∷ [])) 6 16 ∷
+    faulty (then (0x08 ∷ 0x01 ∷ 0x06 ∷ [])) 17 16 ∷
+    faulty (then (0x08 ∷ 0x01 ∷ 0x02 ∷ [])) 7 16 ∷
+    faulty (then (0x12 ∷ 0x07 ∷ [])) 5 15 ∷
+    faulty (then (0x12 ∷ 0x00 ∷ [])) 16 15 ∷
+    faulty (then (0x12 ∷ 0x06 ∷ [])) 17 15 ∷
+    faulty (then (0x12 ∷ 0x03 ∷ [])) 7 15 ∷
+    faulty (then (0x13 ∷ 0x07 ∷ 0x01 ∷ [])) 5 15 ∷
+    faulty (then (0x13 ∷ 0x00 ∷ 0x01 ∷ [])) 16 15 ∷
+    faulty (then (0x13 ∷ 0x06 ∷ 0x01 ∷ [])) 17 15 ∷
+    faulty (then (0x13 ∷ 0x03 ∷ 0x01 ∷ [])) 7 15 ∷
+    faulty (then (0x13 ∷ 0x01 ∷ 0x07 ∷ [])) 5 16 ∷
+    faulty (then (0x13 ∷ 0x01 ∷ 0x00 ∷ [])) 16 16 ∷
+    faulty (then (0x13 ∷ 0x01 ∷ 0x06 ∷ [])) 17 16 ∷
+    faulty (then (0x13 ∷ 0x01 ∷ 0x03 ∷ [])) 7 16 ∷
+    faulty (then (0x14 ∷ 0x07 ∷ 0x01 ∷ [])) 5 15 ∷
+    faulty (then (0x14 ∷ 0x00 ∷ 0x01 ∷ [])) 16 15 ∷
+    faulty (then (0x14 ∷ 0x06 ∷ 0x01 ∷ [])) 17 15 ∷
+    faulty (then (0x14 ∷ 0x03 ∷ 0x01 ∷ [])) 7 15 ∷
+    faulty (then (0x14 ∷ 0x01 ∷ 0x07 ∷ [])) 5 16 ∷
+    faulty (then (0x14 ∷ 0x01 ∷ 0x00 ∷ [])) 16 16 ∷
+    faulty (then (0x14 ∷ 0x01 ∷ 0x06 ∷ [])) 17 16 ∷
+    faulty (then (0x14 ∷ 0x01 ∷ 0x03 ∷ [])) 7 16 ∷
+    faulty (then (0x20 ∷ 0x07 ∷ 0x00 ∷ [])) 5 15 ∷
+    faulty (then (0x20 ∷ 0x01 ∷ 0x00 ∷ [])) 6 15 ∷
+    faulty (then (0x20 ∷ 0x06 ∷ 0x00 ∷ [])) 17 15 ∷
+    faulty (then (0x20 ∷ 0x02 ∷ 0x00 ∷ [])) 7 15 ∷
+    faulty (then (0x20 ∷ 0x00 ∷ 0x07 ∷ [])) 5 16 ∷
+    faulty (then (0x20 ∷ 0x00 ∷ 0x01 ∷ [])) 6 16 ∷
+    faulty (then (0x20 ∷ 0x00 ∷ 0x06 ∷ [])) 17 16 ∷
+    faulty (then (0x20 ∷ 0x00 ∷ 0x02 ∷ [])) 7 16 ∷
+    faulty (then (0x04 ∷ 0x03 ∷ [])) 6 15 ∷
+    faulty (then (0x12 ∷ 0x02 ∷ [])) 16 15 ∷
+    faulty (then (0x07 ∷ 0x02 ∷ 0x00 ∷ [])) 16 15 ∷
+    faulty (then (0x08 ∷ 0x01 ∷ 0x03 ∷ [])) 6 16 ∷
+    faulty (then (0x05 ∷ 0x07 ∷ 0x07 ∷ [])) 5 15 ∷
+    faulty (then (0x06 ∷ 0x01 ∷ 0x07 ∷ [])) 6 15 ∷
+    faulty (then (0x07 ∷ 0x04 ∷ 0x06 ∷ [])) 16 15 ∷
+    faulty (then (0x13 ∷ 0x06 ∷ 0x00 ∷ [])) 17 15 ∷
+    faulty (then (0x20 ∷ 0x02 ∷ 0x01 ∷ [])) 7 15 ∷
+    faulty (then (0x05 ∷ 0x04 ∷ 0x04 ∷ [])) 7 16 ∷
+    faulty (then (0x14 ∷ 0x05 ∷ 0x05 ∷ [])) 7 16 ∷
+    faulty (then (0x20 ∷ 0x04 ∷ 0x04 ∷ [])) 7 16 ∷
+    []
+
 -- the parts of 03 0B: twelve names, three bytes each
 abbrev names12 : List ℕ
 names12 =
@@ -108,15 +198,20 @@ table =
     row waits (counts 1 1 4) (full 14) (lists 4) (0 ∷ 0 ∷ 0 ∷ 2 ∷ 4 ∷ 0 ∷ 1 ∷ 3 ∷ 0 ∷ 2 ∷ 6 ∷ 0 ∷ full 2) ∷
     row (0x03 ∷ 0x00 ∷ []) (counts 1 0 1) (full 5) (lists 1) (0 ∷ 0 ∷ 0 ∷ full 2) ∷
     row (0x03 ∷ 0x0b ∷ []) (counts 12 0 12) (full 38) (lists 12) (names12 ++ full 2) ∷
-    row (0x03 ∷ 0x0c ∷ []) (refuses 4 0) (full 2) (refuses 4 0) (full 2) ∷
-    row (0x03 ∷ 0x0b ∷ 0x10 ∷ 0x00 ∷ []) (refuses 9 0) (full 2) (refuses 9 0) (full 2) ∷
-    row (0x04 ∷ 0x00 ∷ []) (refuses 5 0) (full 2) (refuses 5 0) (full 2) ∷
-    row (0x03 ∷ 0x00 ∷ 0x04 ∷ 0x00 ∷ 0x05 ∷ 0x01 ∷ 0x01 ∷ []) (refuses 7 4) (full 2) (refuses 7 4) (full 2) ∷
-    row (0x10 ∷ 0x00 ∷ 0x12 ∷ 0x00 ∷ 0x01 ∷ 0x07 ∷ 0x01 ∷ 0x02 ∷ []) (refuses 8 5) (full 2) (refuses 8 5) (full 2) ∷
+    faulty (0x03 ∷ 0x0c ∷ []) 4 0 ∷
+    faulty (0x03 ∷ 0x0b ∷ 0x10 ∷ 0x00 ∷ []) 9 0 ∷
+    faulty (0x04 ∷ 0x00 ∷ []) 5 1 ∷
+    faulty (0x03 ∷ 0x00 ∷ 0x04 ∷ 0x00 ∷ 0x05 ∷ 0x01 ∷ 0x01 ∷ []) 7 6 ∷
+    faulty (0x10 ∷ 0x00 ∷ 0x12 ∷ 0x00 ∷ 0x01 ∷ 0x07 ∷ 0x01 ∷ 0x02 ∷ []) 8 5 ∷
     row thrice (counts 1 1 2) (full 8) (lists 2) (0 ∷ 0 ∷ 0 ∷ 2 ∷ 3 ∷ 0 ∷ full 2) ∷
     row notNot (counts 1 1 2) (full 8) (lists 2) (0 ∷ 0 ∷ 0 ∷ 2 ∷ 4 ∷ 0 ∷ full 2) ∷
     row dual (counts 1 1 2) (full 8) (lists 2) (0 ∷ 0 ∷ 0 ∷ 2 ∷ 3 ∷ 1 ∷ full 2) ∷
     row commuted (counts 0 2 2) (full 8) (lists 2) (2 ∷ 5 ∷ 0 ∷ 2 ∷ 6 ∷ 0 ∷ full 2) ∷
     row freshTwice (counts 1 1 5) (full 17) (lists 5)
     (0 ∷ 0 ∷ 0 ∷ 2 ∷ 4 ∷ 0 ∷ 1 ∷ 1 ∷ 0 ∷ 2 ∷ 5 ∷ 0 ∷ 1 ∷ 2 ∷ 0 ∷ full 2) ∷
-    []
+    faulty (0x01 ∷ 0x10 ∷ 0x00 ∷ 0x07 ∷ 0x00 ∷ 0x01 ∷ []) 16 4 ∷
+    faulty (0x10 ∷ 0x00 ∷ 0x07 ∷ 0x00 ∷ 0x00 ∷ []) 6 4 ∷
+    faulty (0x01 ∷ 0x20 ∷ 0x00 ∷ 0x00 ∷ 0x04 ∷ 0x01 ∷ []) 17 5 ∷
+    faulty (0x01 ∷ 0x20 ∷ 0x00 ∷ 0x00 ∷ 0x12 ∷ 0x01 ∷ []) 17 5 ∷
+    faulty (0x01 ∷ 0x20 ∷ 0x00 ∷ 0x00 ∷ 0x10 ∷ 0x00 ∷ 0x07 ∷ 0x02 ∷ 0x01 ∷ []) 17 8 ∷
+    references

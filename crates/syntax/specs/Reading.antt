@@ -4,8 +4,8 @@ use mathlib.Core.Bool.{Bool, cond, _||_}
 use mathlib.Core.List.{List}
 use lib.ListN.{length}
 use lib.Dec.{leb, eqb}
-use Rattle.records.specs.Shapes.{within}
 use Rattle.records.specs.Scan.{State, Scanning, refused, whole, scanSheet}
+use Rattle.records.specs.Places.{isRecordFault, isReferenceFault}
 use Rattle.syntax.specs.Concepts.{Axiom, nodesOf, axiomsOf}
 use Rattle.syntax.specs.Flatten.{Flat, Part, flatten}
 
@@ -40,12 +40,6 @@ reading limit (whole st) = admit limit (kbOf st)
 unfoldable pub readKb : ℕ → List ℕ → Reading
 readKb limit sheet = reading limit (scanSheet sheet)
 
--- ---- the numbers of refusals
-
--- the faults of a record: "The place is the byte where the offending record starts for 1 to 8, and 0 otherwise."
-unfoldable pub isRecordFault : ℕ → Bool
-isRecordFault n = within 1 8 n
-
--- those of the reader: "After the last record: 9, c + L above 12"
+-- the numbers the reader refuses with: a fault of a record or of a reference; "After the last record: 9, c + L above 12"
 unfoldable pub isReadRefusal : ℕ → Bool
-isReadRefusal n = isRecordFault n || eqb n 9
+isReadRefusal n = (isRecordFault n || isReferenceFault n) || eqb n 9

@@ -25,8 +25,17 @@ step-requires c κs = search needs
 enum-known-s : tie.Need-enum-known-s Inv-loop μ-loop
 enum-known-s c = search needs
 
+fault-of-requires : tie.Need-fault-of-requires Inv-loop μ-loop
+fault-of-requires c κs = search needs
+
+cast-t13 : tie.Need-cast-t13 Inv-loop μ-loop
+cast-t13 c = search needs
+
+add-t14 : tie.Need-add-t14 Inv-loop μ-loop
+add-t14 c = search needs
+
 returns-2 : tie.Need-returns-2 Inv-loop μ-loop
-returns-2 c = let step = c .before .before .before .step in let loop = c .before .before .before .before .before .before .before .before .before .loop in running-fault _ _ _ (loop .inv) _ _ (rw (c .before .s .given .1) at (step .ensures)) (c .before .before .before .before .before .before .before .if1 .taken) (c .before .before .before .before .before .if2 .left)
+returns-2 c = running-fault _ _ _ (c .before .before .before .before .before .before .before .before .before .before .before .before .loop .inv) _ _ _ (rw (c .before .before .before .before .s .given .1) at (c .before .before .before .before .before .before .step .ensures)) (c .before .fault-of .ensures) (c .before .before .before .before .before .before .before .before .before .before .if1 .taken) (c .before .before .before .before .before .before .before .before .if2 .left)
 
 enum-known-s-2 : tie.Need-enum-known-s-2 Inv-loop μ-loop
 enum-known-s-2 c = search needs
@@ -50,6 +59,9 @@ scan-spec =
     returns
     step-requires
     enum-known-s
+    fault-of-requires
+    cast-t13
+    add-t14
     returns-2
     enum-known-s-2
     loop-less
