@@ -73,18 +73,25 @@ pub const STRUCK: [Struck; 8] = [
 /// A sheet that is refused: hex, number, place.
 pub type Refused = (&'static str, u64, u64);
 
-pub const REFUSED: [Refused; 5] = [
+/// Those of documents 01 and 02, then a role for a concept, a concept for a
+/// role, and axioms that are named.
+pub const REFUSED: [Refused; 10] = [
     ("03 0C", 4, 0),
     ("03 0B 10 00", 9, 0),
-    ("04 00", 5, 0),
-    ("03 00 04 00 05 01 01", 7, 4),
+    ("04 00", 5, 1),
+    ("03 00 04 00 05 01 01", 7, 6),
     ("10 00 12 00 01 07 01 02", 8, 5),
+    ("10 00 07 00 00", 6, 4),
+    ("01 10 00 07 00 01", 16, 4),
+    ("01 20 00 00 04 01", 17, 5),
+    ("01 20 00 00 12 01", 17, 5),
+    ("01 20 00 00 10 00 07 02 01", 17, 8),
 ];
 
 /// The sheet of twelve parts.
 pub const TWELVE: &str = "03 0B";
 
-/// Every sheet, in document 01's order.
+/// Every sheet: judged, of twelve parts, refused.
 pub fn all() -> impl Iterator<Item = Vec<u8>> {
     let judged = JUDGED.iter().map(|&(hex, ..)| hex);
     let refused = REFUSED.iter().map(|&(hex, ..)| hex);

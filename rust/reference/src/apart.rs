@@ -11,7 +11,8 @@ use crate::{Counts, Judgement};
 ///
 /// # Errors
 ///
-/// Refusals 1 to 8 for the first faulty record, then 9 for the larger count.
+/// Refusals 1 to 8, 16 and 17 for the first faulty record, then 9 for the
+/// larger count.
 pub fn read(sheet: &[u8]) -> Result<Counts, Refusal> {
     crate::read_by(sheet, Sharing::Apart)
 }

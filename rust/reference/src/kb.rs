@@ -6,6 +6,10 @@ const MAX_RECORDS: usize = 255;
 const MAX_NAMES: u8 = 12;
 const MAX_ROLES: u8 = 4;
 
+/// Where a record's references stand, in bytes from its start.
+const FIRST: usize = 1;
+const SECOND: usize = 2;
+
 /// One record. References are record numbers.
 #[derive(Clone, Copy, PartialEq, Eq)]
 pub(crate) enum Record {
@@ -54,6 +58,19 @@ impl Record {
     }
 }
 
+/// A fault of one record, and where it stands, in bytes from the record's start.
+struct Misread {
+    fault: Fault,
+    offset: usize,
+}
+
+/// A fault of the record as a whole.
+impl From<Fault> for Misread {
+    fn from(fault: Fault) -> Self {
+        Misread { fault, offset: 0 }
+    }
+}
+
 #[derive(Clone, Copy)]
 struct Entry {
     record: Record,
@@ -67,7 +84,7 @@ const UNREAD: Entry = Entry {
     named: false,
 };
 
-/// A knowledge base: the records of a sheet without faults 1 to 8.
+/// A knowledge base: the records of a sheet without a faulty record.
 pub(crate) struct Kb {
     /// One entry for each byte value, so that a reference is always in range.
     entries: [Entry; 256],
@@ -93,10 +110,10 @@ impl Kb {
     pub(crate) fn read(&mut self, sheet: &[u8]) -> Result<(), Refusal> {
         let mut rest = sheet;
         while let Some((&kind, body)) = rest.split_first() {
-            let place = sheet.len() - rest.len();
+            let start = sheet.len() - rest.len();
             rest = self
                 .push(kind, body)
-                .map_err(|fault| Refusal::of_record(fault, place))?;
+                .map_err(|Misread { fault, offset }| Refusal::at(start + offset, fault))?;
         }
         Ok(())
     }
@@ -139,9 +156,9 @@ impl Kb {
     }
 
     /// Reads one record; answers the bytes after it.
-    fn push<'a>(&mut self, kind: u8, body: &'a [u8]) -> Result<&'a [u8], Fault> {
+    fn push<'a>(&mut self, kind: u8, body: &'a [u8]) -> Result<&'a [u8], Misread> {
         if self.len == MAX_RECORDS {
-            return Err(Fault::TooManyRecords);
+            return Err(Fault::TooManyRecords.into());
         }
         let (record, rest) = self.decode(kind, body)?;
         self.entries[self.len].record = record;
@@ -151,7 +168,7 @@ impl Kb {
 
     /// The record of a kind, its body taken from `body`; answers also what
     /// follows the body.
-    fn decode<'a>(&mut self, kind: u8, body: &'a [u8]) -> Result<(Record, &'a [u8]), Fault> {
+    fn decode<'a>(&mut self, kind: u8, body: &'a [u8]) -> Result<(Record, &'a [u8]), Misread> {
         match kind {
             0x01 => Ok((Record::Top, body)),
             0x02 => Ok((Record::Bottom, body)),
@@ -167,11 +184,11 @@ impl Kb {
             0x13 => self.boolean_role(body, Record::RoleAnd, |u, v| u && v),
             0x14 => self.boolean_role(body, Record::RoleOr, |u, v| u || v),
             0x20 => self.of_concepts(body, Record::Axiom),
-            _ => Err(Fault::UnknownKind),
+            _ => Err(Fault::UnknownKind.into()),
         }
     }
 
-    fn name<'a>(&mut self, body: &'a [u8]) -> Result<(Record, &'a [u8]), Fault> {
+    fn name<'a>(&mut self, body: &'a [u8]) -> Result<(Record, &'a [u8]), Misread> {
         let (number, rest) = number(body, MAX_NAMES)?;
         self.names = self.names.max(number + 1);
         Ok((Record::Name(number), rest))
@@ -182,15 +199,15 @@ impl Kb {
         &mut self,
         body: &'a [u8],
         record: impl Fn(u8) -> Record,
-    ) -> Result<(Record, &'a [u8]), Fault> {
+    ) -> Result<(Record, &'a [u8]), Misread> {
         let (number, rest) = number(body, MAX_ROLES)?;
         self.roles = self.roles.max(number + 1);
         Ok((record(number), rest))
     }
 
-    fn not<'a>(&mut self, body: &'a [u8]) -> Result<(Record, &'a [u8]), Fault> {
+    fn not<'a>(&mut self, body: &'a [u8]) -> Result<(Record, &'a [u8]), Misread> {
         let (&[c], rest) = take(body)?;
-        self.refer_to(c, Sort::Concept)?;
+        self.refer_to(FIRST, c, Sort::Concept)?;
         Ok((Record::Not(c), rest))
     }
 
@@ -199,16 +216,16 @@ impl Kb {
         &mut self,
         body: &'a [u8],
         record: impl Fn(u8, u8) -> Record,
-    ) -> Result<(Record, &'a [u8]), Fault> {
+    ) -> Result<(Record, &'a [u8]), Misread> {
         let (&[c, d], rest) = take(body)?;
-        self.refer_to(c, Sort::Concept)?;
-        self.refer_to(d, Sort::Concept)?;
+        self.refer_to(FIRST, c, Sort::Concept)?;
+        self.refer_to(SECOND, d, Sort::Concept)?;
         Ok((record(c, d), rest))
     }
 
-    fn role_not<'a>(&mut self, body: &'a [u8]) -> Result<(Record, &'a [u8]), Fault> {
+    fn role_not<'a>(&mut self, body: &'a [u8]) -> Result<(Record, &'a [u8]), Misread> {
         let (&[u], rest) = take(body)?;
-        self.refer_to(u, Sort::Role)?;
+        self.refer_to(FIRST, u, Sort::Role)?;
         self.hold_on_empty[self.len] = !self.holds_on_empty(u);
         Ok((Record::RoleNot(u), rest))
     }
@@ -219,10 +236,10 @@ impl Kb {
         body: &'a [u8],
         record: impl Fn(u8, u8) -> Record,
         holds: impl Fn(bool, bool) -> bool,
-    ) -> Result<(Record, &'a [u8]), Fault> {
+    ) -> Result<(Record, &'a [u8]), Misread> {
         let (&[u, v], rest) = take(body)?;
-        self.refer_to(u, Sort::Role)?;
-        self.refer_to(v, Sort::Role)?;
+        self.refer_to(FIRST, u, Sort::Role)?;
+        self.refer_to(SECOND, v, Sort::Role)?;
         self.hold_on_empty[self.len] = holds(self.holds_on_empty(u), self.holds_on_empty(v));
         Ok((record(u, v), rest))
     }
@@ -231,25 +248,35 @@ impl Kb {
         &mut self,
         body: &'a [u8],
         record: impl Fn(u8, u8) -> Record,
-    ) -> Result<(Record, &'a [u8]), Fault> {
+    ) -> Result<(Record, &'a [u8]), Misread> {
         let (&[role, filler], rest) = take(body)?;
-        self.refer_to(role, Sort::Role)?;
-        self.refer_to(filler, Sort::Concept)?;
+        self.refer_to(FIRST, role, Sort::Role)?;
+        self.refer_to(SECOND, filler, Sort::Concept)?;
         if self.holds_on_empty(role) {
-            return Err(Fault::HoldsOnEmptySet);
+            return Err(Fault::HoldsOnEmptySet.into());
         }
         Ok((record(role, filler), rest))
     }
 
-    /// Checks and notes that the record being read names `target`.
-    fn refer_to(&mut self, target: u8, sort: Sort) -> Result<(), Fault> {
+    /// Checks and notes that the record being read names `target`, by the
+    /// reference at `offset`.
+    fn refer_to(&mut self, offset: usize, target: u8, wanted: Sort) -> Result<(), Misread> {
+        self.note_naming(target, wanted)
+            .map_err(|fault| Misread { fault, offset })
+    }
+
+    /// Checks that `target` may be named where that sort is wanted, and notes it.
+    fn note_naming(&mut self, target: u8, wanted: Sort) -> Result<(), Fault> {
         let target = usize::from(target);
         if target >= self.len {
             return Err(Fault::NotEarlier);
         }
         let entry = &mut self.entries[target];
-        if entry.record.sort() != sort {
-            return Err(Fault::WrongSort);
+        match entry.record.sort() {
+            Sort::Axiom => return Err(Fault::AxiomNamed),
+            Sort::Role if wanted == Sort::Concept => return Err(Fault::RoleForConcept),
+            Sort::Concept if wanted == Sort::Role => return Err(Fault::ConceptForRole),
+            Sort::Concept | Sort::Role => {}
         }
         if entry.named && !entry.record.is_shared() {
             return Err(Fault::NamedTwice);

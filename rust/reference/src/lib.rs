@@ -51,7 +51,7 @@ pub struct Counts {
 ///
 /// # Errors
 ///
-/// Refusals 1 to 8 for the first faulty record, then 9.
+/// Refusals 1 to 8, 16 and 17 for the first faulty record, then 9.
 pub fn read(sheet: &[u8]) -> Result<Counts, Refusal> {
     read_by(sheet, Sharing::ByClaim)
 }

@@ -61,8 +61,8 @@ fn worked_sheets_are_read() {
 fn worked_sheets_are_refused() {
     assert_refused(&[0x03, 0x0C], 4, 0);
     assert_refused(&[0x03, 0x0B, 0x10, 0x00], 9, 0);
-    assert_refused(&[0x04, 0x00], 5, 0);
-    assert_refused(&[0x03, 0x00, 0x04, 0x00, 0x05, 0x01, 0x01], 7, 4);
+    assert_refused(&[0x04, 0x00], 5, 1);
+    assert_refused(&[0x03, 0x00, 0x04, 0x00, 0x05, 0x01, 0x01], 7, 6);
     assert_refused(&[0x10, 0x00, 0x12, 0x00, 0x01, 0x07, 0x01, 0x02], 8, 5);
 }
 
@@ -113,16 +113,34 @@ fn the_256th_record_is_refused_before_its_kind() {
 
 #[test]
 fn each_reference_in_turn() {
-    // Not earlier, wrong sort, named twice: the first reference before the second.
-    assert_refused(&[0x10, 0x00, 0x05, 0x01, 0x00], 5, 2);
-    assert_refused(&[0x10, 0x00, 0x05, 0x00, 0x01], 6, 2);
+    // A reference's faults stand at its byte; the first reference's come before
+    // the second's.
+    assert_refused(&[0x10, 0x00, 0x05, 0x01, 0x00], 5, 3);
+    assert_refused(&[0x10, 0x00, 0x05, 0x00, 0x01], 6, 3);
     let named = [0x01, 0x04, 0x00, 0x04, 0x01, 0x10, 0x00];
     let then = |body: [u8; 2]| [&named[..], &[0x06], &body].concat();
-    assert_refused(&then([1, 4]), 7, 7);
-    assert_refused(&then([2, 1]), 7, 7);
-    assert_refused(&then([2, 3]), 6, 7);
-    // An axiom named is of the wrong sort.
-    assert_refused(&[0x01, 0x20, 0x00, 0x00, 0x04, 0x01], 6, 4);
+    assert_refused(&then([1, 4]), 7, 8);
+    assert_refused(&then([2, 1]), 7, 9);
+    assert_refused(&then([2, 3]), 6, 9);
+    assert_refused(&then([2, 4]), 5, 9);
+    // The first reference has named the record when the second is read.
+    assert_refused(&then([2, 2]), 7, 9);
+}
+
+#[test]
+fn a_record_of_the_wrong_sort() {
+    assert_refused(&[0x10, 0x00, 0x07, 0x00, 0x00], 6, 4);
+    assert_refused(&[0x01, 0x10, 0x00, 0x07, 0x00, 0x01], 16, 4);
+    let axiom = [0x01, 0x20, 0x00, 0x00];
+    let then = |more: &[u8]| [&axiom[..], more].concat();
+    assert_refused(&then(&[0x04, 0x01]), 17, 5);
+    assert_refused(&then(&[0x12, 0x01]), 17, 5);
+    assert_refused(&then(&[0x10, 0x00, 0x07, 0x02, 0x01]), 17, 8);
+    // What was named before is told after its sort.
+    let role = [0x01, 0x10, 0x00, 0x12, 0x01, 0x12, 0x02];
+    assert_refused(&[&role[..], &[0x04, 0x02]].concat(), 6, 8);
+    let concept = [0x01, 0x04, 0x00, 0x04, 0x01];
+    assert_refused(&[&concept[..], &[0x12, 0x01]].concat(), 16, 6);
 }
 
 #[test]
@@ -131,8 +149,8 @@ fn a_role_that_holds_on_the_empty_set() {
     // By itself no fault; the filler's faults come first.
     assert_counts(&not_role, 0, 1, 0);
     let then = |more: &[u8]| [&not_role[..], more].concat();
-    assert_refused(&then(&[0x08, 0x02, 0x03]), 5, 5);
-    assert_refused(&then(&[0x08, 0x02, 0x01]), 6, 5);
+    assert_refused(&then(&[0x08, 0x02, 0x03]), 5, 7);
+    assert_refused(&then(&[0x08, 0x02, 0x01]), 6, 7);
     assert_refused(&then(&[0x08, 0x02, 0x00]), 8, 5);
     assert_refused(&then(&[0x14, 0x02, 0x01, 0x07, 0x03, 0x00]), 8, 8);
     assert_counts(&then(&[0x13, 0x02, 0x01, 0x07, 0x03, 0x00]), 0, 1, 0);
