@@ -1,7 +1,9 @@
 //! Sheets with faults, and bytes that are hardly a sheet.
 
 use crate::made_up::{self, Sheet, MAX_RECORDS};
+use crate::misreference::{self, Case};
 use crate::random::Random;
+use crate::records::body_length;
 
 const KINDS: [u8; 14] = [
     0x01, 0x02, 0x03, 0x04, 0x05, 0x06, 0x07, 0x08, 0x10, 0x11, 0x12, 0x13, 0x14, 0x20,
@@ -10,7 +12,7 @@ const KINDS: [u8; 14] = [
 /// A made-up sheet with some damage done to it.
 pub fn damaged(random: &mut Random) -> Vec<u8> {
     let mut sheet = made_up::sheet(random);
-    match random.below(11) {
+    match random.below(12) {
         0 => overwrite_byte(&mut sheet.bytes, random),
         1 => insert_byte(&mut sheet.bytes, random),
         2 => remove_byte(&mut sheet.bytes, random),
@@ -21,7 +23,8 @@ pub fn damaged(random: &mut Random) -> Vec<u8> {
         7 => add_large_number(&mut sheet, random),
         8 => add_empty_role_restriction(&mut sheet, random),
         9 => overfill(&mut sheet, random),
-        _ => add_restrictions(&mut sheet, random),
+        10 => add_restrictions(&mut sheet, random),
+        _ => add_misreference(&mut sheet, random),
     }
     sheet.bytes
 }
@@ -112,11 +115,7 @@ fn loose_records(random: &mut Random) -> Vec<u8> {
 
 fn loose_record(number: usize, random: &mut Random) -> Vec<u8> {
     let kind = random.pick(&KINDS);
-    let body = match kind {
-        0x01 | 0x02 => 0,
-        0x03 | 0x04 | 0x10..=0x12 => 1,
-        _ => 2,
-    };
+    let body = body_length(kind).expect("a known kind");
     let limit = match random.below(8) {
         0 => number + 2,
         _ => number.max(1),
@@ -151,6 +150,12 @@ fn add_empty_role_restriction(sheet: &mut Sheet, random: &mut Random) {
         _ => sheet.take_concept(random),
     };
     sheet.push(&[random.pick(&[0x07, 0x08]), role, filler]);
+}
+
+/// A record with a faulty reference, if there is room.
+fn add_misreference(sheet: &mut Sheet, random: &mut Random) {
+    let case = random.pick(&Case::all());
+    let _ = misreference::add(sheet, case, random);
 }
 
 /// Fills the sheet up, then begins a 256th record with any byte.

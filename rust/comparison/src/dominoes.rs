@@ -2,9 +2,10 @@
 
 use crate::hex::Hex;
 use crate::lent::{contents, Lent};
+use crate::misreference;
 use crate::random::Random;
 use crate::sharing::Sharing;
-use crate::{Judging, Reference};
+use crate::{Judging, Reference, REFUSALS};
 use reference::domino::{has, Domino, Shape};
 use reference::flat::flatten;
 use reference::{Conditions, Counts, Judgement, Refusal, Strike, Verdict};
@@ -54,8 +55,10 @@ pub struct Tally {
     pub unmet: u64,
     /// Of the unmet: those with an initial domino.
     pub unmet_in_steps: u64,
-    /// By the number of the refusal. 13 is withdrawn.
-    pub refused: [u64; 13],
+    /// By the number of the refusal.
+    pub refused: [u64; REFUSALS],
+    /// Those of a reference.
+    pub misreferences: misreference::Tally,
     pub absent: u64,
     pub kept: u64,
     /// Strikes that struck, by the condition told.
@@ -99,7 +102,10 @@ impl Tally {
 
     fn count(&mut self, answer: Result<Answer, Refusal>, sheet: &[u8], before: &[u64]) {
         match answer {
-            Err(refusal) => self.refused[refusal.number as usize] += 1,
+            Err(refusal) => {
+                self.refused[refusal.number as usize] += 1;
+                self.misreferences.count(sheet, refusal);
+            }
             Ok(Answer::Strike(strike)) => match strike.verdict {
                 Verdict::Absent => self.absent += 1,
                 Verdict::Kept => self.kept += 1,
@@ -281,6 +287,7 @@ impl fmt::Display for Tally {
             write!(f, "; each two conditions failing at once: {rarest} or more")?;
         }
         list(f, "; refusals", &self.refused)?;
+        self.misreferences.fmt(f)?;
         list(f, "; sheets by c + L", &self.sizes)?;
         self.sharing.fmt(f)
     }

@@ -7,9 +7,11 @@ pub mod damage;
 pub mod dominoes;
 pub mod few_axioms;
 pub mod made_up;
+pub mod misreference;
 pub mod queues;
 pub mod random;
 pub mod reading;
+pub mod records;
 pub mod sequences;
 pub mod sharing;
 pub mod suites;
@@ -19,6 +21,9 @@ mod hex;
 mod lent;
 
 use reference::{Counts, Judgement, Refusal, Strike};
+
+/// One more than the largest number of a refusal.
+pub const REFUSALS: usize = 18;
 
 /// The calls about a sheet alone, with the refusals of the reference.
 #[allow(clippy::missing_errors_doc)]

@@ -2,7 +2,7 @@
 
 use crate::dominoes::list;
 use crate::random::Random;
-use crate::{damage, few_axioms, made_up, worked};
+use crate::{damage, few_axioms, made_up, worked, REFUSALS};
 use std::fmt;
 
 pub const SLOT_KIND: u8 = 0x30;
@@ -93,7 +93,7 @@ pub struct Tally {
     pub met: u64,
     pub unmet: u64,
     /// By the number of the refusal.
-    pub refused: [u64; 16],
+    pub refused: [u64; REFUSALS],
 }
 
 impl Tally {
@@ -118,7 +118,8 @@ impl Tally {
 
     #[must_use]
     pub fn slots(&self) -> u64 {
-        self.met + self.unmet + self.refused[..15].iter().sum::<u64>()
+        let refused: u64 = self.refused.iter().sum();
+        self.met + self.unmet + refused - self.refused[15]
     }
 }
 

@@ -2,9 +2,10 @@
 
 use crate::dominoes::list;
 use crate::hex::Hex;
+use crate::misreference;
 use crate::random::Random;
 use crate::sharing::Sharing;
-use crate::Reading;
+use crate::{Reading, REFUSALS};
 use reference::{Counts, Refusal};
 use std::fmt;
 
@@ -19,7 +20,9 @@ pub struct Tally {
     pub accepted: u64,
     pub sharing: Sharing,
     /// By the number of the refusal.
-    pub refused: [u64; 13],
+    pub refused: [u64; REFUSALS],
+    /// Those of a reference.
+    pub misreferences: misreference::Tally,
 }
 
 impl Tally {
@@ -38,6 +41,7 @@ impl Tally {
             }
             Err(refusal) => {
                 self.refused[refusal.number as usize] += 1;
+                self.misreferences.count(sheet, refusal);
                 random.below(13)
             }
         };
@@ -93,6 +97,7 @@ impl fmt::Display for Tally {
             self.comparisons, self.sheets, self.accepted
         )?;
         list(f, "; refusals", &self.refused)?;
+        self.misreferences.fmt(f)?;
         self.sharing.fmt(f)
     }
 }
