@@ -1,4 +1,4 @@
-//! Sheets without faults 1 to 8, built record by record.
+//! Sheets without a faulty record, built record by record.
 
 use crate::copies;
 use crate::random::Random;
@@ -280,12 +280,12 @@ fn steps(random: &mut Random) -> Vec<Step> {
     steps
 }
 
-/// A made-up sheet without faults 1 to 8.
+/// A made-up sheet without a faulty record.
 pub fn sheet(random: &mut Random) -> Sheet {
     by_plan(Plan::new(random), random)
 }
 
-/// A made-up sheet without faults 1 to 8 that makes claims again and again.
+/// A made-up sheet without a faulty record that makes claims again and again.
 pub fn repeating_sheet(random: &mut Random) -> Sheet {
     let mut plan = Plan::new(random);
     plan.roles = plan.roles.max(1);

@@ -61,7 +61,7 @@ impl Written {
     ///
     /// # Errors
     ///
-    /// Refusals 1 to 8.
+    /// Refusals 1 to 8, 16 and 17.
     pub fn read(sheet: &[u8]) -> Result<Self, Refusal> {
         Kb::empty().read(sheet)?;
         let mut written = Written::default();
