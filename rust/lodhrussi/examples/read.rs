@@ -19,7 +19,7 @@ fn main() -> ExitCode {
         Ok(()) => ExitCode::SUCCESS,
         Err(refusal) => {
             println!("refused {} at {}", refusal.number, refusal.place);
-            eprintln!("{refusal}");
+            eprintln!("{}", refusal.explain(&sheet));
             ExitCode::FAILURE
         }
     }

@@ -1,4 +1,4 @@
-use crate::{ffi, Condition, Counts, Refusal};
+use crate::{ffi, Call, Condition, Counts, Refusal};
 
 /// What a strike found.
 #[derive(Clone, Copy, Debug, PartialEq, Eq, Hash)]
@@ -91,7 +91,7 @@ pub fn open(sheet: &[u8], set: &mut [u64]) -> Result<u64, Refusal> {
             &raw mut size,
         )
     };
-    Refusal::check(refused, place)?;
+    Refusal::check(Call::Open, refused, place)?;
     Ok(size)
 }
 
@@ -136,7 +136,7 @@ pub fn strike(sheet: &[u8], set: &mut [u64], number: u64) -> Result<Strike, Refu
             &raw mut condition,
         )
     };
-    Refusal::check(refused, place)?;
+    Refusal::check(Call::Strike, refused, place)?;
     let verdict = Verdict::of(verdict, condition);
     Ok(Strike { number, verdict })
 }
@@ -167,7 +167,7 @@ pub fn settle(sheet: &[u8], set: &mut [u64]) -> Result<u64, Refusal> {
             &raw mut survivors,
         )
     };
-    Refusal::check(refused, place)?;
+    Refusal::check(Call::Settle, refused, place)?;
     Ok(survivors)
 }
 
@@ -202,7 +202,7 @@ pub fn judge(sheet: &[u8], set: &mut [u64]) -> Result<Judgement, Refusal> {
             &raw mut met,
         )
     };
-    Refusal::check(refused, place)?;
+    Refusal::check(Call::Judge, refused, place)?;
     judgement.met = met != 0;
     Ok(judgement)
 }

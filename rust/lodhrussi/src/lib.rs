@@ -32,11 +32,15 @@
 //! # Ok::<(), lodhrussi::Refusal>(())
 //! ```
 
+mod call;
 mod condition;
 mod dominoes;
 mod ffi;
 mod refusal;
 
+pub mod records;
+
+pub use call::Call;
 pub use condition::Condition;
 pub use dominoes::{judge, open, settle, strike, words_needed, Judgement, Strike, Verdict};
 pub use refusal::Refusal;
@@ -57,7 +61,7 @@ pub struct Counts {
 ///
 /// # Errors
 ///
-/// Refusals 1 to 8 for the first faulty record, then 9.
+/// Refusals 1 to 8, 16 and 17 for the first faulty record, then 9.
 ///
 /// ```
 /// assert_eq!(lodhrussi::read(&[])?, lodhrussi::Counts::default());
@@ -78,7 +82,7 @@ pub fn read(sheet: &[u8]) -> Result<Counts, Refusal> {
             &raw mut counts.marks,
         )
     };
-    Refusal::check(number, place)?;
+    Refusal::check(Call::Read, number, place)?;
     Ok(counts)
 }
 
@@ -124,5 +128,5 @@ pub fn list_marks(sheet: &[u8], list: &mut [u8]) -> Result<(), Refusal> {
             &raw mut place,
         )
     };
-    Refusal::check(number, place)
+    Refusal::check(Call::ListMarks, number, place)
 }

@@ -1,84 +1,92 @@
+mod sentence;
+mod shown;
+
+#[cfg(test)]
+mod tests;
+
+use crate::Call;
+use sentence::said;
 use std::error::Error;
 use std::fmt;
 
 /// Why a call refused.
 ///
-/// Displayed as a sentence:
+/// Displayed as a sentence in document 01's words, which goes by the call and
+/// the number; [`explain`](Refusal::explain) adds what the sheet shows.
 ///
 /// ```
-/// let refusal = lodhrussi::read(&[3, 12]).unwrap_err();
-/// assert_eq!(
-///     refusal.to_string(),
-///     "The record at byte 0 has a number that is too large: \
-///      names go up to 11, roles up to 3."
-/// );
+/// let sheet = [0x10, 0, 7, 0, 0];
+/// let refusal = lodhrussi::read(&sheet).unwrap_err();
+/// let sentence = "The reference at byte 4 names a link where a class is wanted.";
+/// assert_eq!(refusal.to_string(), sentence);
 /// ```
 #[derive(Clone, Copy, Debug, PartialEq, Eq, Hash)]
 pub struct Refusal {
-    /// 1 to 8 for a fault of one record, 9 for too many parts, 10 for a set
-    /// that is too short, 11 for a domino number that is too large, 12 for a
-    /// list that is too short. 13 is withdrawn: no call answers it.
+    /// The call that refused.
+    pub call: Call,
+    /// 1 to 8, 16 and 17 for a fault of one record, 9 for too many parts, 10
+    /// for a set that is too short, 11 for a domino number that is too large,
+    /// 12 for a list that is too short. No call answers 13, which is withdrawn,
+    /// nor 14 and 15, which are the queue program's.
     pub number: u64,
-    /// The byte where the faulty record starts; 0 for numbers above 8.
+    /// For 5, 6, 7, 16 and 17 the byte of the faulty reference, for 1 to 4 and
+    /// 8 the byte where the faulty record starts, else 0.
     pub place: u64,
 }
 
 impl Refusal {
     /// The outcome of a call that answered `number` and `place`.
-    pub(crate) fn check(number: u64, place: u64) -> Result<(), Self> {
+    pub(crate) fn check(call: Call, number: u64, place: u64) -> Result<(), Self> {
         match number {
             0 => Ok(()),
-            _ => Err(Refusal { number, place }),
+            _ => Err(Refusal {
+                call,
+                number,
+                place,
+            }),
         }
     }
 
-    /// What is wrong with the record at `place`.
-    fn record_fault(&self) -> Option<&'static str> {
-        Some(match self.number {
-            1 => "is of an unknown kind",
-            2 => "is cut off by the end of the sheet",
-            3 => "is one too many: a sheet has at most 255 records",
-            4 => "has a number that is too large: names go up to 11, roles up to 3",
-            5 => "names a record that does not come before it",
-            6 => "names a record of the wrong sort",
-            7 => "names a record that is already named and may be named only once",
-            8 => "is a restriction by a role that holds on the empty role set",
-            _ => return None,
-        })
+    /// The sentence, then a second one with what the refused sheet shows: the
+    /// byte at the place, the record and the reference that it belongs to, what
+    /// was found there and what was wanted; or what a set or a list needs. The
+    /// sentence alone for another sheet, whose first fault is not this one.
+    ///
+    /// ```
+    /// let sheet = [0x10, 0, 7, 0, 0];
+    /// let refusal = lodhrussi::read(&sheet).unwrap_err();
+    /// assert_eq!(
+    ///     refusal.explain(&sheet),
+    ///     "The reference at byte 4 names a link where a class is wanted. \
+    ///      Byte 4 is 00, the second reference of record 1 (07, some, at byte 2): \
+    ///      it names record 0 (10, link as named, at byte 0), and a class is wanted."
+    /// );
+    /// assert_eq!(refusal.explain(&[]), refusal.to_string());
+    /// ```
+    #[must_use]
+    pub fn explain(&self, sheet: &[u8]) -> String {
+        match shown::shown(self, sheet) {
+            Some(shown) => format!("{self} {shown}"),
+            None => self.to_string(),
+        }
     }
 }
 
 impl fmt::Display for Refusal {
     fn fmt(&self, f: &mut fmt::Formatter<'_>) -> fmt::Result {
-        if let Some(fault) = self.record_fault() {
-            return write!(f, "The record at byte {} {fault}.", self.place);
-        }
-        match self.number {
-            9 => f.write_str("Parts and roles together come to more than 12."),
-            10 => f.write_str("The set has fewer words than the dominoes need."),
-            11 => f.write_str("There is no domino of that number."),
-            12 => f.write_str("The list is shorter than three bytes for each part."),
-            number => write!(f, "The call refused with number {number}."),
+        let Refusal {
+            call,
+            number,
+            place,
+        } = self;
+        match said(*call, *number) {
+            Some((subject, says)) => write!(f, "{} {says}.", subject.at(*place)),
+            None => write!(
+                f,
+                "The call {call} refused with number {number} at {place}."
+            ),
         }
     }
 }
 
 impl Error for Refusal {}
-
-#[cfg(test)]
-mod tests {
-    use super::*;
-    use std::collections::HashSet;
-
-    #[test]
-    fn each_refusal_has_its_own_sentence() {
-        let sentences: HashSet<String> = (1..=12)
-            .map(|number| Refusal { number, place: 5 }.to_string())
-            .collect();
-        assert_eq!(sentences.len(), 12);
-        assert!(sentences.iter().all(|sentence| sentence.ends_with('.')));
-        assert!(!sentences
-            .iter()
-            .any(|sentence| sentence.contains("number 1")));
-    }
-}
