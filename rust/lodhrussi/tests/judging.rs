@@ -1,12 +1,15 @@
 //! The calls about domino sets, against the independent reference.
 
 use comparison::suites::{self, report};
-use comparison::Judging;
+use comparison::{misreference, Judging};
+use lodhrussi::Call;
 use reference::{Judgement, Refusal, Strike, Verdict};
 
 struct Product;
 
-fn refusal(refusal: lodhrussi::Refusal) -> Refusal {
+/// The reference's form of a refusal of that call.
+fn refusal(call: Call, refusal: lodhrussi::Refusal) -> Refusal {
+    assert_eq!(refusal.call, call);
     Refusal {
         number: refusal.number,
         place: refusal.place,
@@ -25,11 +28,12 @@ fn verdict(verdict: lodhrussi::Verdict) -> Verdict {
 
 impl Judging for Product {
     fn open(&self, sheet: &[u8], set: &mut [u64]) -> Result<u64, Refusal> {
-        lodhrussi::open(sheet, set).map_err(refusal)
+        lodhrussi::open(sheet, set).map_err(|r| refusal(Call::Open, r))
     }
 
     fn strike(&self, sheet: &[u8], set: &mut [u64], number: u64) -> Result<Strike, Refusal> {
-        let strike = lodhrussi::strike(sheet, set, number).map_err(refusal)?;
+        let strike = lodhrussi::strike(sheet, set, number);
+        let strike = strike.map_err(|r| refusal(Call::Strike, r))?;
         Ok(Strike {
             number: strike.number,
             verdict: verdict(strike.verdict),
@@ -37,11 +41,12 @@ impl Judging for Product {
     }
 
     fn settle(&self, sheet: &[u8], set: &mut [u64]) -> Result<u64, Refusal> {
-        lodhrussi::settle(sheet, set).map_err(refusal)
+        lodhrussi::settle(sheet, set).map_err(|r| refusal(Call::Settle, r))
     }
 
     fn judge(&self, sheet: &[u8], set: &mut [u64]) -> Result<Judgement, Refusal> {
-        let judgement = lodhrussi::judge(sheet, set).map_err(refusal)?;
+        let judgement = lodhrussi::judge(sheet, set);
+        let judgement = judgement.map_err(|r| refusal(Call::Judge, r))?;
         Ok(Judgement {
             opening: judgement.opening,
             survivors: judgement.survivors,
@@ -77,6 +82,12 @@ fn large_sheets() {
 fn damaged_sheets() {
     let tally = suites::damaged_dominoes(&Product);
     report("damaged sheets", &tally);
+}
+
+#[test]
+fn faulty_references() {
+    let tally = misreference::suites::made_up_dominoes(&Product);
+    report("faulty references", &tally);
 }
 
 #[test]

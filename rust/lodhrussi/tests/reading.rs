@@ -2,17 +2,20 @@
 
 use comparison::random::Random;
 use comparison::suites::{self, report};
-use comparison::{made_up, Reading};
+use comparison::{made_up, misreference, Reading};
+use lodhrussi::Call;
 use reference::{Counts, Refusal};
 
 /// Every refusal that the two calls have.
-const REFUSALS: [usize; 10] = [1, 2, 3, 4, 5, 6, 7, 8, 9, 12];
+const REFUSALS: [usize; 12] = [1, 2, 3, 4, 5, 6, 7, 8, 9, 12, 16, 17];
 
 const MADE_UP: u64 = 30_000;
 
 struct Product;
 
-fn refusal(refusal: lodhrussi::Refusal) -> Refusal {
+/// The reference's form of a refusal of that call.
+fn refusal(call: Call, refusal: lodhrussi::Refusal) -> Refusal {
+    assert_eq!(refusal.call, call);
     Refusal {
         number: refusal.number,
         place: refusal.place,
@@ -21,7 +24,7 @@ fn refusal(refusal: lodhrussi::Refusal) -> Refusal {
 
 impl Reading for Product {
     fn read(&self, sheet: &[u8]) -> Result<Counts, Refusal> {
-        let counts = lodhrussi::read(sheet).map_err(refusal)?;
+        let counts = lodhrussi::read(sheet).map_err(|r| refusal(Call::Read, r))?;
         Ok(Counts {
             traits: counts.traits,
             links: counts.links,
@@ -30,7 +33,7 @@ impl Reading for Product {
     }
 
     fn list_marks(&self, sheet: &[u8], list: &mut [u8]) -> Result<(), Refusal> {
-        lodhrussi::list_marks(sheet, list).map_err(refusal)
+        lodhrussi::list_marks(sheet, list).map_err(|r| refusal(Call::ListMarks, r))
     }
 }
 
@@ -59,6 +62,13 @@ fn made_up_sheets() {
     for number in REFUSALS {
         assert!(tally.refused[number] >= 100, "refusal {number} is rare");
     }
+}
+
+#[test]
+fn faulty_references() {
+    misreference::suites::fixed(&Product);
+    let tally = misreference::suites::made_up_reading(&Product);
+    report("reading, faulty references", &tally);
 }
 
 #[test]

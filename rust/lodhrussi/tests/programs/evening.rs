@@ -58,10 +58,25 @@ fn the_worked_sheets() {
     let rows = [
         (from_hex(S1), OF_S1),
         (from_hex(S2), OF_S2),
-        (from_hex("03 00 04 00 05 01 01"), "refused 7 at 4\n"),
+        (from_hex("03 00 04 00 05 01 01"), "refused 7 at 6\n"),
         (vec![], OF_EMPTY),
     ];
     assert_all("worked sheets", &rows);
+}
+
+/// A fault of a reference is placed at its byte, other faults of a record where
+/// it starts.
+#[test]
+fn faults_of_references() {
+    let rows = [
+        (from_hex("04 00"), "refused 5 at 1\n"),
+        (from_hex("10 00 07 00 00"), "refused 6 at 4\n"),
+        (from_hex("01 10 00 07 00 01"), "refused 16 at 4\n"),
+        (from_hex("01 20 00 00 04 01"), "refused 17 at 5\n"),
+        (from_hex("01 20 00 00 10 00 07 02 01"), "refused 17 at 8\n"),
+        (from_hex("10 00 12 00 01 07 01 02"), "refused 8 at 5\n"),
+    ];
+    assert_all("faults of references", &rows);
 }
 
 /// Each of six names is some role 0 with filler name 0: six occurrences of one

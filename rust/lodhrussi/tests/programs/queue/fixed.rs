@@ -51,8 +51,9 @@ fn the_worked_sheets() {
     queue.push(END_KIND);
     let expected = "0 met 1\n1 met 16\n2 unmet 0\n3 unmet 0\n4 unmet 0\n5 met 16\n6 met 85\n\
                     7 met 4\n8 refused 10\n9 refused 4\n10 refused 9\n11 refused 5\n\
-                    12 refused 7\n13 refused 8\n\
-                    sheets 14 met 5 unmet 3 refused 6 survivors 122\n";
+                    12 refused 7\n13 refused 8\n14 refused 6\n15 refused 16\n\
+                    16 refused 17\n17 refused 17\n18 refused 17\n\
+                    sheets 19 met 5 unmet 3 refused 11 survivors 122\n";
     let comparisons = QUEUE.assert_prints(&queue, expected);
     report("worked sheets", comparisons);
 }
@@ -89,6 +90,8 @@ fn each_refusal_of_a_slot() {
         (9, vec![0x03, 11, 0x10, 0]),
         (10, vec![0x03, 9]),
         (14, vec![0x01; LONGEST + 1]),
+        (16, vec![0x01, 0x12, 0]),
+        (17, vec![0x01, 0x20, 0, 0, 0x04, 1]),
     ];
     let says = sheets
         .each_ref()

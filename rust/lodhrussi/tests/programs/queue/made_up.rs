@@ -91,7 +91,7 @@ fn made_up_sheets() {
     }
     report("queues of made-up sheets", &tally);
     assert!(4 * tally.met >= tally.slots() && 6 * tally.unmet >= tally.slots());
-    for number in (1..=10).chain([14]) {
+    for number in (1..=10).chain([14, 16, 17]) {
         assert!(tally.refused[number] >= 100, "refusal {number} is rare");
     }
 }
