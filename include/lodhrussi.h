@@ -10,7 +10,8 @@
  * plant that keeps the sheet is a finite interpretation that is a model.
  *
  * Results. Every call returns the number of its refusal, 0 for done.
- *   *place is written on a refusal and only then: the byte where the offending record starts for 1 to 8, and 0 otherwise.
+ *   *place is written on a refusal and only then: the byte of the offending reference for 5, 6, 7, 16 and 17, the byte where the
+ *   offending record starts for 1 to 4 and 8, and 0 otherwise.
  *   The other numbers (*traits, *size, *verdict, ..) are written when done and only then; *condition only when struck.
  *   A refusal writes nothing to a list or a set.
  *
@@ -21,7 +22,9 @@
  *    4  trait or link number too large: traits go up to 11, links up to 3
  *       then for each reference in turn
  *    5  not an earlier record
- *    6  wrong sort
+ *    6  a link where a class is wanted
+ *   16  a class where a link is wanted
+ *   17  a rule: rules are never named
  *    7  already named once and not allowed again
  *       and last
  *    8  the link of a some or only holds on the empty set of links
@@ -31,7 +34,7 @@
  *   10  set too short: fewer words than needed (below)
  *   11  number not below 2^(2c+2L)
  *   12  list shorter than 3c bytes
- *   13  withdrawn: no call answers it
+ * No call answers 13, which is withdrawn, nor 14 and 15, which are the queue program's.
  *
  * Sets. Pairing number A * 2^(2L+c) + R * 2^c + B has left mark set A, link set R and right mark set B. A set of pairings is a list
  * of 64-bit words; pairing n is bit n mod 64 of word n / 64. Words needed: 2^(2c+2L) / 64, but at least 1: 1 for c + L up to 3,
@@ -57,7 +60,7 @@ extern "C" {
  * Read. Answers T, L and c: *traits is one more than the largest trait number in the sheet, or 0; *links the same for links; *marks
  * the number of all marks. Occurrences of one claim (a some or only: the same kind after normal form, links written alike, the same
  * filler in normal form, if that is a trait, everything or nothing) share a mark.
- * Refuses: 1 to 9.
+ * Refuses: 1 to 8, 16, 17, then 9.
  */
 uint64_t lodhrussi_read(const uint8_t *sheet, size_t n, uint64_t *place, uint64_t *traits, uint64_t *links, uint64_t *marks);
 

@@ -15,6 +15,11 @@ strike 11 0 9 9
 settle 0 9 16
 judge 0 9 32 16 1
 judge 2 5 9 9 9
+read 5 1 9 9 9
+read 6 4 9 9 9
+read 16 4 9 9 9
+read 17 8 9 9 9
+read 7 6 9 9 9
 ";
 
 /// A file of the repository.

@@ -22,8 +22,21 @@ static void strike(uint64_t *set, uint64_t number)
     line("strike", out, 4);
 }
 
+/* The refusal and place of a read, and the counts. */
+static void refused_read(const uint8_t *sheet, size_t n)
+{
+    uint64_t out[5] = {9, 9, 9, 9, 9};
+    out[0] = lodhrussi_read(sheet, n, &out[1], &out[2], &out[3], &out[4]);
+    line("read", out, 5);
+}
+
 int main(void)
 {
+    static const uint8_t not_earlier[] = {0x04, 0x00};
+    static const uint8_t link_for_class[] = {0x10, 0x00, 0x07, 0x00, 0x00};
+    static const uint8_t class_for_link[] = {0x01, 0x10, 0x00, 0x07, 0x00, 0x01};
+    static const uint8_t rule_named[] = {0x01, 0x20, 0x00, 0x00, 0x10, 0x00, 0x07, 0x02, 0x01};
+    static const uint8_t named_twice[] = {0x03, 0x00, 0x04, 0x00, 0x05, 0x01, 0x01};
     uint8_t list[7] = {9, 9, 9, 9, 9, 9, 9};
     uint64_t set[1] = {9};
 
@@ -57,5 +70,11 @@ int main(void)
     uint64_t refused[5] = {9, 9, 9, 9, 9};
     refused[0] = lodhrussi_judge(s1, 7, set, 1, &refused[1], &refused[2], &refused[3], &refused[4]);
     line("judge", refused, 5);
+
+    refused_read(not_earlier, sizeof not_earlier);
+    refused_read(link_for_class, sizeof link_for_class);
+    refused_read(class_for_link, sizeof class_for_link);
+    refused_read(rule_named, sizeof rule_named);
+    refused_read(named_twice, sizeof named_twice);
     return 0;
 }
