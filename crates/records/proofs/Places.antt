@@ -15,7 +15,7 @@ use Rattle.records.specs.declared.Entry.{Entry}
 use Rattle.records.specs.declared.Fault.{Fault}
 use Rattle.records.specs.Shapes.{within, isLeaf, isRestriction}
 use Rattle.records.specs.Scan.{State, start, blank, recordAt, naming, entryFor, faultAt, orElse, numberFault, sortFault, againFault, referenceFault, name, emptyFault, bodyFault, after, bodyByte, shapeAt, recordFault, recordAfter, refused, whole, scan, scanSheet}
-use Rattle.records.specs.Places.{startOf, Start, wantedAt, Reference, wantedBy, namedShape, Misnames, isRecordFault, isReferenceFault, Placed}
+use Rattle.records.specs.Places.{startOf, KnownBefore, Start, wantedAt, Reference, wantedBy, namedShape, Misnames, isRecordFault, isReferenceFault, Placed}
 use Rattle.records.proofs.KindTable.{Bounds, bounds}
 
 -- ---- the numbers
@@ -243,7 +243,7 @@ record-told sheet st = go (eqb (s .sort) 0) refl (ltb (length sheet - (st .at + 
 record Reached (sheet : List ℕ) (n : ℕ) (st : State) : Type 0 where
   at : st .at ≡ startOf sheet n
   count : length (st .records) ≡ n
-  known : (m : ℕ) → m < n → shapeAt sheet (startOf sheet m) .sort ≡ 0 → ⊥
+  known : KnownBefore sheet n
   sorts : (m : ℕ) → m < n → recordAt (st .records) m .sort ≡ shapeAt sheet (startOf sheet m) .sort
   leaves : (m : ℕ) → m < n → recordAt (st .records) m .leaf ≡ isLeaf (shapeAt sheet (startOf sheet m))
 

@@ -15,11 +15,15 @@ unfoldable pub startOf : List ℕ → ℕ → ℕ
 startOf sheet zero = 0
 startOf sheet (suc n) = startOf sheet n + 1 + shapeAt sheet (startOf sheet n) .body
 
--- record n starts at byte p of the sheet; the kinds of those before it are known
+-- the kinds of the records before record n are known
+abbrev pub KnownBefore : List ℕ → ℕ → Type 0
+KnownBefore sheet n = (m : ℕ) → m < n → shapeAt sheet (startOf sheet m) .sort ≡ 0 → ⊥
+
+-- record n starts at byte p of the sheet
 pub record Start (sheet : List ℕ) (n p : ℕ) : Type 0 where
   pub place : p ≡ startOf sheet n
   pub inside : p < length sheet
-  pub known : (m : ℕ) → m < n → shapeAt sheet (startOf sheet m) .sort ≡ 0 → ⊥
+  pub known : KnownBefore sheet n
 
 -- the sort that byte i of a body must name; 0: that byte is no reference
 abbrev pub wantedAt : Shape → ℕ → ℕ
