@@ -1,20 +1,20 @@
--- Laws of sets in lists of words: the words of a set have its members, a list of words is that of its members, and one number is put in or taken out.
+-- Laws of sets in lists of words: the words of a set have its members, a list of words is that of its members, and one number is taken out.
 use mathlib.Core.Path.{_≡_, refl, sym, ap, ap₂, subst, _∙_}
-use mathlib.Core.Bool.{Bool, false, cond, not, _&&_, _||_, and-true, or-false}
+use mathlib.Core.Bool.{Bool, false, cond, not, _&&_, and-true}
 use mathlib.Core.List.{List, [], _∷_, _++_}
 use Prim.Native.Nat.{ℕ, zero, suc, _+_, _-_, _*_, _/_, _%_, _^_, _≤_, _<_}
 use native.Mathlib.Nat.{mod-eq-of-lt}
 use native.Mathlib.Decide.{ℕ-discrete}
 use native.Mathlib.Omega.{arith}
 use lib.Dec.{T, eqb, ltb, ltb→lt, lt→ltb}
-use lib.Bits.{bitAnd, bitOr}
+use lib.Bits.{bitAnd}
 use lib.Pow.{pow-lt}
 use lib.ListN.{getD, set, take, drop, length, length-set}
 use lib.Seq.{getD-set-same, getD-set-other, getD-take, length-take-le}
 use borrow.Author.Tests.{eq-eqb, ne-eqb}
-use Rattle.bitset.specs.Bits.{Set, bit, word, wordAt, look, wordsFrom, words, areWords, without, inserted, cleared}
+use Rattle.bitset.specs.Bits.{Set, bit, word, wordAt, look, wordsFrom, words, areWords, without, cleared}
 use Rattle.bitset.proofs.Facts.{and-left, and-right, and-both}
-use Rattle.bitset.proofs.Laws.{word-lt, word-ext, word-not, word-and, word-or, word-none, bit-word, word-bits, bit-wordAt, wordAt-lt, wordAt-same}
+use Rattle.bitset.proofs.Laws.{word-lt, word-ext, word-not, word-and, word-none, bit-word, word-bits, bit-wordAt, wordAt-lt, wordAt-same}
 
 -- ---- one digit of a word
 
@@ -44,11 +44,6 @@ pub word-clear : (n w j : ℕ) → w < 2 ^ n → j < n → bitAnd w (2 ^ n - 1 -
 word-clear n w j h l =
     ap₂ bitAnd (sym (word-bits n w h)) (ap (λ (x : ℕ). 2 ^ n - 1 - x) (sym (word-one n j l)) ∙ word-not n (λ k. eqb k j))
     ∙ word-and n (bit w) (λ k. not (eqb k j))
-
--- and put in
-pub word-insert : (n w j : ℕ) → w < 2 ^ n → j < n → bitOr w (2 ^ j) ≡ word n (λ k. bit w k || eqb k j)
-word-insert n w j h l =
-    ap₂ bitOr (sym (word-bits n w h)) (sym (word-one n j l)) ∙ word-or n (bit w) (λ k. eqb k j)
 
 -- ---- lists of words
 
@@ -169,18 +164,9 @@ pub are-cleared : (ws : List ℕ) (n : ℕ) → T (areWords ws) → T (areWords 
 unfolding cleared
 are-cleared ws n t = are-set ws (n / 64) (word 64 (without (bit (getD ws (n / 64) 0)) (n % 64))) t (word-lt 64 (without (bit (getD ws (n / 64) 0)) (n % 64)))
 
-pub are-inserted : (ws : List ℕ) (n : ℕ) → T (areWords ws) → T (areWords (inserted ws n))
-unfolding inserted
-are-inserted ws n t =
-    are-set ws (n / 64) (word 64 (λ k. bit (getD ws (n / 64) 0) k || eqb k (n % 64))) t (word-lt 64 (λ k. bit (getD ws (n / 64) 0) k || eqb k (n % 64)))
-
 pub length-cleared : (ws : List ℕ) (n : ℕ) → length (cleared ws n) ≡ length ws
 unfolding cleared
 length-cleared ws n = length-set ws (n / 64) (word 64 (without (bit (getD ws (n / 64) 0)) (n % 64)))
-
-pub length-inserted : (ws : List ℕ) (n : ℕ) → length (inserted ws n) ≡ length ws
-unfolding inserted
-length-inserted ws n = length-set ws (n / 64) (word 64 (λ k. bit (getD ws (n / 64) 0) k || eqb k (n % 64)))
 
 pub are-append : (ws vs : List ℕ) → T (areWords ws) → T (areWords vs) → T (areWords (ws ++ vs))
 unfolding areWords
@@ -209,7 +195,7 @@ front k ws t h =
     sym (words-look′ (take k ws) k (look ws) (are-take k ws t) (length-take-le k ws h)
     (λ p l. ap (λ (x : ℕ). bit x (p % 64)) (sym (getD-take k ws (p / 64) 0 (omega arith)))))
 
--- ---- one number put in or taken out
+-- ---- one number taken out
 
 -- within one word numbers are the same where their digits are
 eqb-digit : (p n : ℕ) → p / 64 ≡ n / 64 → eqb (p % 64) (n % 64) ≡ eqb p n
@@ -219,28 +205,19 @@ eqb-digit p n e = go (ℕ-discrete p n)
     go (yes q) = eq-eqb (p % 64) (n % 64) (omega arith) ∙ sym (eq-eqb p n q)
     go (no q) = ne-eqb (p % 64) (n % 64) (λ f. q (omega arith)) ∙ sym (ne-eqb p n q)
 
--- one word changed by a test of its numbers: f of the old test and of being n, where not being n changes nothing
-look-set : (ws : List ℕ) (n : ℕ) (f : Bool → Bool → Bool) → ((b : Bool) → f b false ≡ b) → n / 64 < length ws → (p : ℕ)
-    → look (set ws (n / 64) (word 64 (λ k. f (bit (getD ws (n / 64) 0) k) (eqb k (n % 64))))) p ≡ f (look ws p) (eqb p n)
-look-set ws n f z h p = go (ℕ-discrete (p / 64) (n / 64))
+-- n is out, and the others are as they were
+pub look-cleared : (ws : List ℕ) (n : ℕ) → n / 64 < length ws → (p : ℕ) → look (cleared ws n) p ≡ without (look ws) n p
+unfolding cleared
+look-cleared ws n h p = go (ℕ-discrete (p / 64) (n / 64))
   where
-    go : Dec (p / 64 ≡ n / 64)
-        → look (set ws (n / 64) (word 64 (λ k. f (bit (getD ws (n / 64) 0) k) (eqb k (n % 64))))) p ≡ f (look ws p) (eqb p n)
+    go : Dec (p / 64 ≡ n / 64) → look (cleared ws n) p ≡ without (look ws) n p
     go (yes e) =
-        let D : Set = λ k. f (bit (getD ws (n / 64) 0) k) (eqb k (n % 64)) in
+        let D : Set = without (bit (getD ws (n / 64) 0)) (n % 64) in
         ap (λ (i : ℕ). bit (getD (set ws (n / 64) (word 64 D)) i 0) (p % 64)) e
         ∙ ap (λ (x : ℕ). bit x (p % 64)) (getD-set-same ws (n / 64) (word 64 D) 0 h)
         ∙ bit-word 64 D (p % 64) (omega arith)
-        ∙ ap₂ (λ (i : ℕ) (b : Bool). f (bit (getD ws i 0) (p % 64)) b) (sym e) (eqb-digit p n e)
+        ∙ ap₂ (λ (i : ℕ) (b : Bool). bit (getD ws i 0) (p % 64) && not b) (sym e) (eqb-digit p n e)
     go (no e) =
-        let D : Set = λ k. f (bit (getD ws (n / 64) 0) k) (eqb k (n % 64)) in
+        let D : Set = without (bit (getD ws (n / 64) 0)) (n % 64) in
         ap (λ (x : ℕ). bit x (p % 64)) (getD-set-other ws (n / 64) (p / 64) (word 64 D) 0 e)
-        ∙ sym (ap (λ (b : Bool). f (look ws p) b) (ne-eqb p n (λ q. e (ap (λ (m : ℕ). m / 64) q))) ∙ z (look ws p))
-
-pub look-cleared : (ws : List ℕ) (n : ℕ) → n / 64 < length ws → (p : ℕ) → look (cleared ws n) p ≡ without (look ws) n p
-unfolding cleared
-look-cleared ws n h p = look-set ws n (λ a b. a && not b) and-true h p
-
-pub look-inserted : (ws : List ℕ) (n : ℕ) → n / 64 < length ws → (p : ℕ) → look (inserted ws n) p ≡ (look ws p || eqb p n)
-unfolding inserted
-look-inserted ws n h p = look-set ws n (λ a b. a || b) or-false h p
+        ∙ sym (ap (λ (b : Bool). look ws p && not b) (ne-eqb p n (λ q. e (ap (λ (m : ℕ). m / 64) q))) ∙ and-true (look ws p))

@@ -1,6 +1,6 @@
 -- Sets of numbers as binary digits: of one number, and of words of 64.
 use Prim.Native.Nat.{ℕ, zero, suc, _+_, _*_, _/_, _%_, _^_}
-use mathlib.Core.Bool.{Bool, true, cond, not, _&&_, _||_}
+use mathlib.Core.Bool.{Bool, true, cond, not, _&&_}
 use mathlib.Core.List.{List, [], _∷_}
 use lib.ListN.{getD, set}
 use lib.Dec.{eqb, ltb}
@@ -44,10 +44,7 @@ areWords (w ∷ ws) = ltb w (2 ^ 64) && areWords ws
 abbrev pub without : Set → ℕ → Set
 without D n p = D p && not (eqb p n)
 
--- the words with number n put in, and with it taken out: one word changes
-unfoldable pub inserted : List ℕ → ℕ → List ℕ
-inserted ws n = set ws (n / 64) (word 64 (λ k. bit (getD ws (n / 64) 0) k || eqb k (n % 64)))
-
+-- the words with number n taken out: one word changes
 unfoldable pub cleared : List ℕ → ℕ → List ℕ
 cleared ws n = set ws (n / 64) (word 64 (without (bit (getD ws (n / 64) 0)) (n % 64)))
 
