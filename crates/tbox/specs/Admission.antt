@@ -20,9 +20,9 @@ abbrev pub foundIn : ℕ → ℕ → Progress → ℕ → Admitted
 foundIn f place p c = record { fault = f; place = place; count = p .count; names = p .names; roles = p .roles; parts = c }
 
 -- a sheet that is read, or refused: fault 0 or the refusal
-pub record Admits (limit : ℕ) (sheet table parts′ : List ℕ) (r : Admitted) : Type 0 where
-  pub refused : (r .fault ≡ 0 → ⊥) → readKb limit sheet ≡ refusal (r .fault) (r .place)
-  pub read : r .fault ≡ 0 → readKb limit sheet ≡ kb (kbAdmitted table r)
+pub record Admits (bound : ℕ) (sheet table parts′ : List ℕ) (r : Admitted) : Type 0 where
+  pub refused : (r .fault ≡ 0 → ⊥) → readKb bound sheet ≡ refusal (r .fault) (r .place)
+  pub read : r .fault ≡ 0 → readKb bound sheet ≡ kb (kbAdmitted table r)
   pub records : r .count ≤ 255
-  pub held : r .fault ≡ 0 → Held limit (seen table (r .count)) parts′ (r .parts) (partsOf (kbAdmitted table r))
-  pub small : r .fault ≡ 0 → r .parts + r .roles ≤ limit
+  pub held : r .fault ≡ 0 → Held bound (seen table (r .count)) parts′ (r .parts) (partsOf (kbAdmitted table r))
+  pub small : r .fault ≡ 0 → r .parts + r .roles ≤ bound

@@ -30,15 +30,15 @@ fn found(fault: u8, p: Progress, parts: usize) -> Admitted
     }
 }
 
-// Reads a sheet into a table of records and a table of parts; parts and roles together are at most the limit.
+// Reads a sheet into a table of records and a table of parts; parts and roles together are at most the bound, itself at most 20.
 pub(crate) fn admit(
     sheet: &[u8],
     table: &mut [u32; 255],
     parts: &mut [u32; 20],
-    limit: usize,
+    bound: usize,
 ) -> Admitted
-    requires { ⌜ limit ≤ 20 ⌝ }
-    ensures { λ r. ⌜ Admits limit (now (sheet .entry)) (now (table .exit)) (now (parts .exit)) r ⌝ }
+    requires { ⌜ bound ≤ 20 ⌝ }
+    ensures { λ r. ⌜ Admits bound (now (sheet .entry)) (now (table .exit)) (now (parts .exit)) r ⌝ }
 {
     let s = scan(sheet, table);
     match s {
@@ -51,11 +51,11 @@ pub(crate) fn admit(
             parts: 0,
         },
         Scanned::Whole(p) => {
-            let c = flatten(table, p.count, p.names, parts, limit);
-            if limit < c {
+            let c = flatten(table, p.count, p.names, parts, bound);
+            if bound < c {
                 return found(9, p, c);
             }
-            if limit - c < p.roles {
+            if bound - c < p.roles {
                 return found(9, p, c);
             }
             found(0, p, c)

@@ -1,4 +1,4 @@
--- A sheet is refused as the scan refuses it, or with 9 where parts and roles are above the limit; else it is read.
+-- A sheet is refused as the scan refuses it, or with 9 where parts and roles are above the bound; else it is read.
 use borrow.Author.Needs.{needs}
 use Rattle.tbox.proofs.SheetsRead.{admits-refused, admits-over, admits-roles, admits-whole}
 use Rattle.tbox.proofs.admission.admit.Statement.{statement}
