@@ -15,15 +15,16 @@ pub enum Verdict {
 }
 
 impl Verdict {
-    /// The verdict that the library answers as a number; `condition` counts
-    /// for Struck alone.
+    /// The verdict that the library answers as a number, 0 to 2; `condition`
+    /// counts for Struck alone.
     fn of(number: u64, condition: u64) -> Self {
         match number {
             0 => Verdict::Absent,
             1 => Verdict::Struck {
                 condition: Condition::of(condition),
             },
-            _ => Verdict::Kept,
+            2 => Verdict::Kept,
+            _ => panic!("the library answers a verdict's number, and not {number}"),
         }
     }
 }
@@ -42,14 +43,17 @@ pub struct Judgement {
     pub opening: u64,
     /// The size of the canonical domino set.
     pub survivors: u64,
-    /// Whether the canonical domino set has a member. If not, no finite
-    /// interpretation with at least one individual is a model.
+    /// Whether the canonical domino set has a member: precisely if some finite
+    /// interpretation of at least one individual is a model.
     pub met: bool,
 }
 
 /// The words that a domino set of a sheet with these counts takes: one bit for
-/// each of the 4<sup>marks + links</sup> dominoes, and at least one word. The
-/// counts are those of a sheet that is read: marks and links at most 12.
+/// each of the 4<sup>marks + links</sup> dominoes, and at least one word.
+///
+/// A sheet that is read has at most 12 marks and links together. Of other
+/// counts, those whose words no `usize` can tell give [`usize::MAX`], and no set
+/// has so many.
 ///
 /// ```
 /// let counts = lodhrussi::Counts { traits: 8, links: 1, marks: 8 };
@@ -57,8 +61,9 @@ pub struct Judgement {
 /// ```
 #[must_use]
 pub fn words_needed(counts: Counts) -> usize {
-    let bits = 1 << (2 * (counts.marks + counts.links));
-    usize::div_ceil(bits, 64)
+    // 64 dominoes to a word, and 64 is 4³
+    let exponent = counts.marks.saturating_add(counts.links).saturating_sub(3);
+    u32::try_from(exponent).map_or(usize::MAX, |exponent| 4_usize.saturating_pow(exponent))
 }
 
 /// Writes the initial domino set of a sheet and answers its size.
@@ -171,8 +176,8 @@ pub fn settle(sheet: &[u8], set: &mut [u64]) -> Result<u64, Refusal> {
     Ok(survivors)
 }
 
-/// Decides whether the knowledge base of a sheet has a model, and leaves its
-/// canonical domino set.
+/// Decides whether the knowledge base of a sheet has a finite model of at least
+/// one individual, and leaves its canonical domino set.
 ///
 /// # Errors
 ///
@@ -205,4 +210,25 @@ pub fn judge(sheet: &[u8], set: &mut [u64]) -> Result<Judgement, Refusal> {
     Refusal::check(Call::Judge, refused, place)?;
     judgement.met = met != 0;
     Ok(judgement)
+}
+
+#[cfg(test)]
+mod tests {
+    use super::*;
+
+    #[test]
+    fn each_verdict_has_its_number() {
+        assert_eq!(Verdict::of(0, 0), Verdict::Absent);
+        for condition in Condition::ALL {
+            let struck = Verdict::Struck { condition };
+            assert_eq!(Verdict::of(1, condition.number()), struck);
+        }
+        assert_eq!(Verdict::of(2, 0), Verdict::Kept);
+    }
+
+    #[test]
+    #[should_panic(expected = "the library answers a verdict's number, and not 3")]
+    fn no_other_number_is_a_verdict() {
+        let _ = Verdict::of(3, 0);
+    }
 }

@@ -7,10 +7,10 @@
 //! Judging goes by dominoes: a domino is two labels (sets of parts, one for
 //! each of two individuals) and the set of roles between them. The canonical
 //! domino set is the largest in which no domino is defective, and the knowledge
-//! base has a model precisely if that set is not empty. Domino sets are lent as
-//! words: domino n is bit n mod 64 of word n / 64, and with c parts, L roles, a
-//! left label A, a role set R and a right label B, n is
-//! A × 2<sup>2L + c</sup> + R × 2<sup>c</sup> + B.
+//! base has a finite model of at least one individual precisely if that set is
+//! not empty. Domino sets are lent as words: domino n is bit n mod 64 of word
+//! n / 64, and with c parts, L roles, a left label A, a role set R and a right
+//! label B, n is A × 2<sup>2L + c</sup> + R × 2<sup>c</sup> + B.
 //!
 //! ```
 //! // Everything, role 0, name 0; some of role 0 is name 0; an axiom: everything is that.

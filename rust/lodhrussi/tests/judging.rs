@@ -98,12 +98,28 @@ fn lists_of_calls() {
 
 #[test]
 fn words_needed() {
-    for (marks, links, words) in [(0, 0, 1), (2, 1, 1), (8, 1, 4_096), (12, 0, 262_144)] {
+    let of_sheets = [
+        (0, 0, 1),
+        (2, 1, 1),
+        (3, 1, 4),
+        (8, 1, 4_096),
+        (12, 0, 262_144),
+    ];
+    let large = [(31, 0, 1 << 56), (31, 1, 1 << 58), (0, 34, 1 << 62)];
+    let too_large = [
+        (34, 1),
+        (35, 0),
+        (1 << 32, 0),
+        (1 << 63, 1 << 63),
+        (u64::MAX, u64::MAX),
+    ];
+    let too_large = too_large.map(|(marks, links)| (marks, links, usize::MAX));
+    for (marks, links, words) in of_sheets.into_iter().chain(large).chain(too_large) {
         let counts = lodhrussi::Counts {
             traits: 0,
             links,
             marks,
         };
-        assert_eq!(lodhrussi::words_needed(counts), words);
+        assert_eq!(lodhrussi::words_needed(counts), words, "{counts:?}");
     }
 }
