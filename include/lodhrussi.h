@@ -1,5 +1,5 @@
 /*
- * Lodhrussi: sheets of rules, and whether they can be met. For C99 and later, and for C++.
+ * Lodhrussi: sheets of rules, and whether some finite plant of at least one item keeps them. For C99 and later, and for C++.
  *
  * To link: `rt staticlib capi` writes target/staticlib/libcapi.a (x86-64), then
  *
@@ -101,8 +101,8 @@ uint64_t lodhrussi_settle(const uint8_t *sheet, size_t n, uint64_t *set, size_t 
 
 /*
  * Judge. Opens and settles: leaves the survivors, whatever the set was before. Answers the opening size, the survivor count, and
- * met (1) or unmet (0): whether there is a survivor. Every finite plant of at least one item that keeps the sheet has all its
- * pairings among the survivors, so no plant keeps a sheet that is unmet.
+ * met (1) or unmet (0): whether there is a survivor. It is met exactly if some finite plant of at least one item keeps the sheet,
+ * and every such plant has all its pairings among the survivors.
  * Refuses: as read does, then 10.
  */
 uint64_t lodhrussi_judge(const uint8_t *sheet, size_t n, uint64_t *set, size_t words, uint64_t *place, uint64_t *opening,
