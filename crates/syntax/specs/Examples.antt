@@ -1,6 +1,6 @@
--- Worked sheets (01, "Sheets to try"): what read and list marks answer for each, and what list marks leaves. Proved in
--- proofs/Worked.antt.
-use Prim.Native.Nat.{ℕ}
+-- Worked sheets (01, "Sheets to try", and others that tell the definitions from near ones): what read and list marks answer for
+-- each, and what list marks leaves. Proved in proofs/Worked.antt.
+use Prim.Native.Nat.{ℕ, zero, suc, _+_, _*_}
 use mathlib.Core.List.{List, [], _∷_, _++_}
 use lib.ListN.{replicate}
 use Rattle.syntax.specs.Reading.{readKb}
@@ -75,6 +75,30 @@ freshTwice =
     0x03 ∷ 0x00 ∷ 0x04 ∷ 0x00 ∷ 0x04 ∷ 0x00 ∷ 0x10 ∷ 0x00 ∷ 0x07 ∷ 0x03 ∷ 0x01 ∷ 0x07 ∷ 0x03 ∷ 0x02 ∷
     0x01 ∷ 0x20 ∷ 0x06 ∷ 0x04 ∷ 0x20 ∷ 0x06 ∷ 0x05 ∷ []
 
+-- an only in two axioms
+abbrev onlyTwice : List ℕ
+onlyTwice =
+    0x01 ∷ 0x10 ∷ 0x00 ∷ 0x03 ∷ 0x00 ∷ 0x08 ∷ 0x01 ∷ 0x02 ∷ 0x20 ∷ 0x00 ∷ 0x03 ∷ 0x08 ∷ 0x01 ∷ 0x02 ∷ 0x20 ∷ 0x00 ∷ 0x05 ∷ []
+
+-- the role k0 and k1 in two records
+abbrev roleTwice : List ℕ
+roleTwice =
+    0x10 ∷ 0x00 ∷ 0x10 ∷ 0x01 ∷ 0x13 ∷ 0x00 ∷ 0x01 ∷ 0x13 ∷ 0x00 ∷ 0x01 ∷ 0x01 ∷ 0x07 ∷ 0x02 ∷ 0x04 ∷ 0x07 ∷ 0x03 ∷ 0x04 ∷ 0x20 ∷
+    0x04 ∷ 0x05 ∷ 0x20 ∷ 0x04 ∷ 0x06 ∷ []
+
+-- one restriction in six axioms: 7 parts, and 12 if each occurrence had its own
+abbrev repeated : List ℕ
+repeated =
+    0x03 ∷ 0x00 ∷ 0x10 ∷ 0x00 ∷ 0x03 ∷ 0x01 ∷ 0x03 ∷ 0x02 ∷ 0x03 ∷ 0x03 ∷ 0x03 ∷ 0x04 ∷ 0x03 ∷ 0x05 ∷ 0x07 ∷ 0x01 ∷ 0x00 ∷ 0x20 ∷
+    0x00 ∷ 0x07 ∷ 0x07 ∷ 0x01 ∷ 0x00 ∷ 0x20 ∷ 0x02 ∷ 0x09 ∷ 0x07 ∷ 0x01 ∷ 0x00 ∷ 0x20 ∷ 0x03 ∷ 0x0b ∷ 0x07 ∷ 0x01 ∷ 0x00 ∷ 0x20 ∷
+    0x04 ∷ 0x0d ∷ 0x07 ∷ 0x01 ∷ 0x00 ∷ 0x20 ∷ 0x05 ∷ 0x0f ∷ 0x07 ∷ 0x01 ∷ 0x00 ∷ 0x20 ∷ 0x06 ∷ 0x11 ∷ []
+
+-- an axiom with five restrictions: every (4 or 5) and 6 is 7 and 8
+abbrev operands : List ℕ
+operands =
+    0x10 ∷ 0x00 ∷ 0x01 ∷ 0x02 ∷ 0x03 ∷ 0x00 ∷ 0x07 ∷ 0x00 ∷ 0x01 ∷ 0x08 ∷ 0x00 ∷ 0x02 ∷ 0x07 ∷ 0x00 ∷ 0x03 ∷ 0x07 ∷ 0x00 ∷ 0x02 ∷
+    0x08 ∷ 0x00 ∷ 0x03 ∷ 0x06 ∷ 0x04 ∷ 0x05 ∷ 0x05 ∷ 0x09 ∷ 0x06 ∷ 0x05 ∷ 0x07 ∷ 0x08 ∷ 0x20 ∷ 0x0a ∷ 0x0b ∷ []
+
 -- T, L and c; the number of parts listed; a refusal's number and place
 abbrev counts : ℕ → ℕ → ℕ → List ℕ
 counts t l c = 0 ∷ 0 ∷ t ∷ l ∷ c ∷ []
@@ -88,6 +112,10 @@ refuses n p = n ∷ p ∷ []
 -- so many bytes that are there before
 abbrev full : ℕ → List ℕ
 full n = replicate n 0xff
+
+-- T, L and c, and the bytes of the parts, in a list with two bytes more
+abbrev listed : List ℕ → ℕ → ℕ → ℕ → List ℕ → Row
+listed s t l c ps = row s (counts t l c) (full (3 * c + 2)) (lists c) (ps ++ full 2)
 
 -- read refuses, and list marks likewise
 abbrev faulty : List ℕ → ℕ → ℕ → Row
@@ -179,6 +207,117 @@ references =
     faulty (then (0x20 ∷ 0x04 ∷ 0x04 ∷ [])) 7 16 ∷
     []
 
+-- 1, "unknown kind": so many kinds from one on; all that the table of kinds leaves out
+abbrev unknownFrom : ℕ → ℕ → List Row
+unknownFrom zero k = []
+unknownFrom (suc n) k = faulty (k ∷ []) 1 0 ∷ unknownFrom n (suc k)
+
+abbrev unknown : List Row
+unknown = unknownFrom 1 0x00 ++ unknownFrom 7 0x09 ++ unknownFrom 11 0x15 ++ unknownFrom 223 0x21
+
+-- "inside a record in this order: 3, a 256th record begins; 1, unknown kind; 2, body cut off; .. then for each reference in turn 5,
+-- .. 6, .. 7, ..; last 8": each of these records but the first has a fault of later order too
+abbrev inOrder : List Row
+inOrder =
+    faulty (0x03 ∷ []) 2 0 ∷
+    faulty (replicate 255 0x01 ++ (0x00 ∷ [])) 3 255 ∷
+    faulty (0x05 ∷ 0x05 ∷ []) 2 0 ∷
+    faulty (0x10 ∷ 0x00 ∷ 0x05 ∷ 0x00 ∷ []) 2 2 ∷
+    faulty (0x10 ∷ 0x00 ∷ 0x12 ∷ 0x00 ∷ 0x12 ∷ 0x01 ∷ 0x04 ∷ 0x01 ∷ []) 6 7 ∷
+    faulty (0x10 ∷ 0x00 ∷ 0x05 ∷ 0x00 ∷ 0x07 ∷ []) 6 3 ∷
+    faulty (0x10 ∷ 0x00 ∷ 0x05 ∷ 0x07 ∷ 0x00 ∷ []) 5 3 ∷
+    faulty (0x03 ∷ 0x00 ∷ 0x04 ∷ 0x00 ∷ 0x04 ∷ 0x01 ∷ 0x05 ∷ 0x01 ∷ 0x09 ∷ []) 7 7 ∷
+    faulty (0x03 ∷ 0x00 ∷ 0x04 ∷ 0x00 ∷ 0x04 ∷ 0x01 ∷ 0x05 ∷ 0x09 ∷ 0x01 ∷ []) 5 7 ∷
+    faulty (0x10 ∷ 0x00 ∷ 0x12 ∷ 0x00 ∷ 0x07 ∷ 0x01 ∷ 0x05 ∷ []) 5 6 ∷
+    faulty (0x10 ∷ 0x00 ∷ 0x12 ∷ 0x00 ∷ 0x07 ∷ 0x01 ∷ 0x00 ∷ []) 6 6 ∷
+    faulty (0x01 ∷ 0x10 ∷ 0x00 ∷ 0x12 ∷ 0x01 ∷ 0x04 ∷ 0x00 ∷ 0x04 ∷ 0x03 ∷ 0x07 ∷ 0x02 ∷ 0x03 ∷ []) 7 11 ∷
+    []
+
+-- "Records of kinds 01, 02, 03, 10, 11 may be named often; every other record at most once": a not that an earlier record names
+-- by its first reference, and by its second; each kind with references, named twice; 02 and 11, named twice
+abbrev namedOnce : List Row
+namedOnce =
+    faulty (0x03 ∷ 0x00 ∷ 0x04 ∷ 0x00 ∷ 0x04 ∷ 0x01 ∷ 0x04 ∷ 0x01 ∷ []) 7 7 ∷
+    faulty (0x01 ∷ 0x04 ∷ 0x00 ∷ 0x05 ∷ 0x00 ∷ 0x01 ∷ 0x04 ∷ 0x01 ∷ []) 7 7 ∷
+    faulty (0x01 ∷ 0x05 ∷ 0x00 ∷ 0x00 ∷ 0x05 ∷ 0x01 ∷ 0x01 ∷ []) 7 6 ∷
+    faulty (0x01 ∷ 0x06 ∷ 0x00 ∷ 0x00 ∷ 0x05 ∷ 0x01 ∷ 0x01 ∷ []) 7 6 ∷
+    faulty (0x01 ∷ 0x10 ∷ 0x00 ∷ 0x07 ∷ 0x01 ∷ 0x00 ∷ 0x05 ∷ 0x02 ∷ 0x02 ∷ []) 7 8 ∷
+    faulty (0x01 ∷ 0x10 ∷ 0x00 ∷ 0x08 ∷ 0x01 ∷ 0x00 ∷ 0x05 ∷ 0x02 ∷ 0x02 ∷ []) 7 8 ∷
+    faulty (0x10 ∷ 0x00 ∷ 0x12 ∷ 0x00 ∷ 0x13 ∷ 0x01 ∷ 0x01 ∷ []) 7 6 ∷
+    faulty (0x10 ∷ 0x00 ∷ 0x13 ∷ 0x00 ∷ 0x00 ∷ 0x13 ∷ 0x01 ∷ 0x01 ∷ []) 7 7 ∷
+    faulty (0x10 ∷ 0x00 ∷ 0x14 ∷ 0x00 ∷ 0x00 ∷ 0x13 ∷ 0x01 ∷ 0x01 ∷ []) 7 7 ∷
+    listed (0x02 ∷ 0x11 ∷ 0x00 ∷ 0x07 ∷ 0x01 ∷ 0x00 ∷ 0x20 ∷ 0x00 ∷ 0x02 ∷ 0x08 ∷ 0x01 ∷ 0x00 ∷ 0x20 ∷ 0x00 ∷ 0x04 ∷ []) 0 1 2
+    (2 ∷ 2 ∷ 0 ∷ 3 ∷ 4 ∷ 0 ∷ []) ∷
+    []
+
+-- "link number 0 to 3"; T is "one more than the largest trait number in the sheet" and L the same, whatever comes last
+abbrev largest : List Row
+largest =
+    listed (0x10 ∷ 0x03 ∷ []) 0 4 0 [] ∷
+    listed (0x11 ∷ 0x03 ∷ []) 0 4 0 [] ∷
+    faulty (0x10 ∷ 0x04 ∷ []) 4 0 ∷
+    faulty (0x11 ∷ 0x04 ∷ []) 4 0 ∷
+    listed (0x03 ∷ 0x02 ∷ 0x03 ∷ 0x00 ∷ 0x10 ∷ 0x01 ∷ 0x11 ∷ 0x00 ∷ []) 3 2 3 (0 ∷ 0 ∷ 0 ∷ 0 ∷ 1 ∷ 0 ∷ 0 ∷ 2 ∷ 0 ∷ []) ∷
+    []
+
+-- "a link and its reverse are false there, and not, and, or work as usual": an only; a not of a not; and, or of every two values
+abbrev onEmpty : List Row
+onEmpty =
+    faulty (0x10 ∷ 0x00 ∷ 0x12 ∷ 0x00 ∷ 0x01 ∷ 0x08 ∷ 0x01 ∷ 0x02 ∷ []) 8 5 ∷
+    listed (0x10 ∷ 0x00 ∷ 0x12 ∷ 0x00 ∷ 0x12 ∷ 0x01 ∷ 0x01 ∷ 0x07 ∷ 0x02 ∷ 0x03 ∷ []) 0 1 0 [] ∷
+    listed (0x10 ∷ 0x00 ∷ 0x13 ∷ 0x00 ∷ 0x00 ∷ 0x01 ∷ 0x07 ∷ 0x01 ∷ 0x02 ∷ []) 0 1 0 [] ∷
+    listed (0x10 ∷ 0x00 ∷ 0x12 ∷ 0x00 ∷ 0x13 ∷ 0x00 ∷ 0x01 ∷ 0x01 ∷ 0x07 ∷ 0x02 ∷ 0x03 ∷ []) 0 1 0 [] ∷
+    listed (0x10 ∷ 0x00 ∷ 0x12 ∷ 0x00 ∷ 0x13 ∷ 0x01 ∷ 0x00 ∷ 0x01 ∷ 0x07 ∷ 0x02 ∷ 0x03 ∷ []) 0 1 0 [] ∷
+    faulty (0x10 ∷ 0x00 ∷ 0x12 ∷ 0x00 ∷ 0x12 ∷ 0x00 ∷ 0x13 ∷ 0x01 ∷ 0x02 ∷ 0x01 ∷ 0x07 ∷ 0x03 ∷ 0x04 ∷ []) 8 10 ∷
+    listed (0x10 ∷ 0x00 ∷ 0x14 ∷ 0x00 ∷ 0x00 ∷ 0x01 ∷ 0x07 ∷ 0x01 ∷ 0x02 ∷ []) 0 1 0 [] ∷
+    faulty (0x10 ∷ 0x00 ∷ 0x12 ∷ 0x00 ∷ 0x14 ∷ 0x00 ∷ 0x01 ∷ 0x01 ∷ 0x07 ∷ 0x02 ∷ 0x03 ∷ []) 8 8 ∷
+    faulty (0x10 ∷ 0x00 ∷ 0x12 ∷ 0x00 ∷ 0x14 ∷ 0x01 ∷ 0x00 ∷ 0x01 ∷ 0x07 ∷ 0x02 ∷ 0x03 ∷ []) 8 8 ∷
+    faulty (0x10 ∷ 0x00 ∷ 0x12 ∷ 0x00 ∷ 0x12 ∷ 0x00 ∷ 0x14 ∷ 0x01 ∷ 0x02 ∷ 0x01 ∷ 0x07 ∷ 0x03 ∷ 0x04 ∷ []) 8 10 ∷
+    []
+
+-- "each from left to right": a rule's two sides; an or; an and, and both under a not
+abbrev leftToRight : List Row
+leftToRight =
+    listed (0x01 ∷ 0x10 ∷ 0x00 ∷ 0x07 ∷ 0x01 ∷ 0x00 ∷ 0x08 ∷ 0x01 ∷ 0x00 ∷ 0x20 ∷ 0x02 ∷ 0x03 ∷ []) 0 1 2
+    (3 ∷ 2 ∷ 1 ∷ 3 ∷ 3 ∷ 0 ∷ []) ∷
+    listed (0x01 ∷ 0x10 ∷ 0x00 ∷ 0x07 ∷ 0x01 ∷ 0x00 ∷ 0x08 ∷ 0x01 ∷ 0x00 ∷ 0x06 ∷ 0x02 ∷ 0x03 ∷ 0x20 ∷ 0x00 ∷ 0x04 ∷ []) 0 1 2
+    (2 ∷ 2 ∷ 0 ∷ 3 ∷ 3 ∷ 0 ∷ []) ∷
+    listed operands 1 1 7 (0 ∷ 0 ∷ 0 ∷ 3 ∷ 4 ∷ 1 ∷ 2 ∷ 5 ∷ 1 ∷ 3 ∷ 6 ∷ 1 ∷ 1 ∷ 3 ∷ 1 ∷ 2 ∷ 7 ∷ 0 ∷ 3 ∷ 8 ∷ 0 ∷ []) ∷
+    []
+
+-- "1 if that record is read under an odd number of nots, a rule's left side counting as one": a fresh filler under one; two
+abbrev underNots : List Row
+underNots =
+    listed (0x03 ∷ 0x00 ∷ 0x10 ∷ 0x00 ∷ 0x05 ∷ 0x00 ∷ 0x00 ∷ 0x07 ∷ 0x01 ∷ 0x02 ∷ 0x02 ∷ 0x20 ∷ 0x03 ∷ 0x04 ∷ []) 1 1 3
+    (0 ∷ 0 ∷ 0 ∷ 3 ∷ 3 ∷ 1 ∷ 1 ∷ 2 ∷ 1 ∷ []) ∷
+    listed (0x10 ∷ 0x00 ∷ 0x01 ∷ 0x07 ∷ 0x00 ∷ 0x01 ∷ 0x04 ∷ 0x02 ∷ 0x02 ∷ 0x20 ∷ 0x03 ∷ 0x04 ∷ []) 0 1 1 (2 ∷ 2 ∷ 0 ∷ []) ∷
+    []
+
+-- a filler "in normal form" and no simpler: t0 and everything; "Go through the rules": a some in none has no mark
+abbrev asWritten : List Row
+asWritten =
+    listed (0x03 ∷ 0x00 ∷ 0x01 ∷ 0x05 ∷ 0x00 ∷ 0x01 ∷ 0x10 ∷ 0x00 ∷ 0x07 ∷ 0x03 ∷ 0x02 ∷ 0x20 ∷ 0x01 ∷ 0x04 ∷ []) 1 1 3
+    (0 ∷ 0 ∷ 0 ∷ 2 ∷ 4 ∷ 0 ∷ 1 ∷ 2 ∷ 0 ∷ []) ∷
+    listed (0x10 ∷ 0x00 ∷ 0x01 ∷ 0x07 ∷ 0x00 ∷ 0x01 ∷ []) 0 1 0 [] ∷
+    []
+
+-- 02, N4: they "share a mark, if that filler is a trait, everything or nothing"; "link expressions written alike" in two records; "9 is
+-- given for the smaller count"
+abbrev sharing : List Row
+sharing =
+    listed onlyTwice 1 1 2 (0 ∷ 0 ∷ 0 ∷ 3 ∷ 3 ∷ 0 ∷ []) ∷
+    listed (0x10 ∷ 0x00 ∷ 0x01 ∷ 0x07 ∷ 0x00 ∷ 0x01 ∷ 0x20 ∷ 0x01 ∷ 0x02 ∷ 0x07 ∷ 0x00 ∷ 0x01 ∷ 0x20 ∷ 0x01 ∷ 0x04 ∷ []) 0 1 1
+    (2 ∷ 2 ∷ 0 ∷ []) ∷
+    listed (0x10 ∷ 0x00 ∷ 0x01 ∷ 0x08 ∷ 0x00 ∷ 0x01 ∷ 0x20 ∷ 0x01 ∷ 0x02 ∷ 0x08 ∷ 0x00 ∷ 0x01 ∷ 0x20 ∷ 0x01 ∷ 0x04 ∷ []) 0 1 1
+    (3 ∷ 2 ∷ 0 ∷ []) ∷
+    listed (0x02 ∷ 0x10 ∷ 0x00 ∷ 0x01 ∷ 0x07 ∷ 0x01 ∷ 0x00 ∷ 0x20 ∷ 0x02 ∷ 0x03 ∷ 0x07 ∷ 0x01 ∷ 0x00 ∷ 0x20 ∷ 0x02 ∷ 0x05 ∷ []) 0 1 1
+    (2 ∷ 3 ∷ 0 ∷ []) ∷
+    listed (0x02 ∷ 0x10 ∷ 0x00 ∷ 0x01 ∷ 0x08 ∷ 0x01 ∷ 0x00 ∷ 0x20 ∷ 0x02 ∷ 0x03 ∷ 0x08 ∷ 0x01 ∷ 0x00 ∷ 0x20 ∷ 0x02 ∷ 0x05 ∷ []) 0 1 1
+    (3 ∷ 3 ∷ 0 ∷ []) ∷
+    listed roleTwice 0 2 1 (2 ∷ 5 ∷ 0 ∷ []) ∷
+    listed repeated 6 1 7 (0 ∷ 0 ∷ 0 ∷ 0 ∷ 1 ∷ 0 ∷ 0 ∷ 2 ∷ 0 ∷ 0 ∷ 3 ∷ 0 ∷ 0 ∷ 4 ∷ 0 ∷ 0 ∷ 5 ∷ 0 ∷ 2 ∷ 7 ∷ 0 ∷ []) ∷
+    []
+
 -- the parts of 03 0B: twelve names, three bytes each
 abbrev names12 : List ℕ
 names12 =
@@ -187,31 +326,30 @@ names12 =
 
 abbrev pub table : List Row
 table =
-    row [] (counts 0 0 0) (full 2) (lists 0) (full 2) ∷
-    row s1 (counts 1 1 2) (full 8) (lists 2) (0 ∷ 0 ∷ 0 ∷ 2 ∷ 3 ∷ 0 ∷ full 2) ∷
+    listed [] 0 0 0 [] ∷
+    listed s1 1 1 2 (0 ∷ 0 ∷ 0 ∷ 2 ∷ 3 ∷ 0 ∷ []) ∷
     row s1 (counts 1 1 2) (full 5) (refuses 12 0) (full 5) ∷
-    row s2 (counts 1 1 2) (full 8) (lists 2) (0 ∷ 0 ∷ 0 ∷ 2 ∷ 3 ∷ 0 ∷ full 2) ∷
-    row s3 (counts 1 1 3) (full 11) (lists 3) (0 ∷ 0 ∷ 0 ∷ 2 ∷ 3 ∷ 0 ∷ 3 ∷ 7 ∷ 0 ∷ full 2) ∷
-    row s4 (counts 0 1 1) (full 5) (lists 1) (2 ∷ 2 ∷ 1 ∷ full 2) ∷
-    row s5 (counts 1 1 2) (full 8) (lists 2) (0 ∷ 0 ∷ 0 ∷ 3 ∷ 3 ∷ 0 ∷ full 2) ∷
-    row s6 (counts 1 1 3) (full 11) (lists 3) (0 ∷ 0 ∷ 0 ∷ 2 ∷ 3 ∷ 0 ∷ 1 ∷ 2 ∷ 0 ∷ full 2) ∷
-    row waits (counts 1 1 4) (full 14) (lists 4) (0 ∷ 0 ∷ 0 ∷ 2 ∷ 4 ∷ 0 ∷ 1 ∷ 3 ∷ 0 ∷ 2 ∷ 6 ∷ 0 ∷ full 2) ∷
-    row (0x03 ∷ 0x00 ∷ []) (counts 1 0 1) (full 5) (lists 1) (0 ∷ 0 ∷ 0 ∷ full 2) ∷
-    row (0x03 ∷ 0x0b ∷ []) (counts 12 0 12) (full 38) (lists 12) (names12 ++ full 2) ∷
+    listed s2 1 1 2 (0 ∷ 0 ∷ 0 ∷ 2 ∷ 3 ∷ 0 ∷ []) ∷
+    listed s3 1 1 3 (0 ∷ 0 ∷ 0 ∷ 2 ∷ 3 ∷ 0 ∷ 3 ∷ 7 ∷ 0 ∷ []) ∷
+    listed s4 0 1 1 (2 ∷ 2 ∷ 1 ∷ []) ∷
+    listed s5 1 1 2 (0 ∷ 0 ∷ 0 ∷ 3 ∷ 3 ∷ 0 ∷ []) ∷
+    listed s6 1 1 3 (0 ∷ 0 ∷ 0 ∷ 2 ∷ 3 ∷ 0 ∷ 1 ∷ 2 ∷ 0 ∷ []) ∷
+    listed waits 1 1 4 (0 ∷ 0 ∷ 0 ∷ 2 ∷ 4 ∷ 0 ∷ 1 ∷ 3 ∷ 0 ∷ 2 ∷ 6 ∷ 0 ∷ []) ∷
+    listed (0x03 ∷ 0x00 ∷ []) 1 0 1 (0 ∷ 0 ∷ 0 ∷ []) ∷
+    listed (0x03 ∷ 0x0b ∷ []) 12 0 12 names12 ∷
     faulty (0x03 ∷ 0x0c ∷ []) 4 0 ∷
     faulty (0x03 ∷ 0x0b ∷ 0x10 ∷ 0x00 ∷ []) 9 0 ∷
     faulty (0x04 ∷ 0x00 ∷ []) 5 1 ∷
     faulty (0x03 ∷ 0x00 ∷ 0x04 ∷ 0x00 ∷ 0x05 ∷ 0x01 ∷ 0x01 ∷ []) 7 6 ∷
     faulty (0x10 ∷ 0x00 ∷ 0x12 ∷ 0x00 ∷ 0x01 ∷ 0x07 ∷ 0x01 ∷ 0x02 ∷ []) 8 5 ∷
-    row thrice (counts 1 1 2) (full 8) (lists 2) (0 ∷ 0 ∷ 0 ∷ 2 ∷ 3 ∷ 0 ∷ full 2) ∷
-    row notNot (counts 1 1 2) (full 8) (lists 2) (0 ∷ 0 ∷ 0 ∷ 2 ∷ 4 ∷ 0 ∷ full 2) ∷
-    row dual (counts 1 1 2) (full 8) (lists 2) (0 ∷ 0 ∷ 0 ∷ 2 ∷ 3 ∷ 1 ∷ full 2) ∷
-    row commuted (counts 0 2 2) (full 8) (lists 2) (2 ∷ 5 ∷ 0 ∷ 2 ∷ 6 ∷ 0 ∷ full 2) ∷
-    row freshTwice (counts 1 1 5) (full 17) (lists 5)
-    (0 ∷ 0 ∷ 0 ∷ 2 ∷ 4 ∷ 0 ∷ 1 ∷ 1 ∷ 0 ∷ 2 ∷ 5 ∷ 0 ∷ 1 ∷ 2 ∷ 0 ∷ full 2) ∷
+    listed thrice 1 1 2 (0 ∷ 0 ∷ 0 ∷ 2 ∷ 3 ∷ 0 ∷ []) ∷
+    listed notNot 1 1 2 (0 ∷ 0 ∷ 0 ∷ 2 ∷ 4 ∷ 0 ∷ []) ∷
+    listed dual 1 1 2 (0 ∷ 0 ∷ 0 ∷ 2 ∷ 3 ∷ 1 ∷ []) ∷
+    listed commuted 0 2 2 (2 ∷ 5 ∷ 0 ∷ 2 ∷ 6 ∷ 0 ∷ []) ∷
+    listed freshTwice 1 1 5 (0 ∷ 0 ∷ 0 ∷ 2 ∷ 4 ∷ 0 ∷ 1 ∷ 1 ∷ 0 ∷ 2 ∷ 5 ∷ 0 ∷ 1 ∷ 2 ∷ 0 ∷ []) ∷
     faulty (0x01 ∷ 0x10 ∷ 0x00 ∷ 0x07 ∷ 0x00 ∷ 0x01 ∷ []) 16 4 ∷
     faulty (0x10 ∷ 0x00 ∷ 0x07 ∷ 0x00 ∷ 0x00 ∷ []) 6 4 ∷
     faulty (0x01 ∷ 0x20 ∷ 0x00 ∷ 0x00 ∷ 0x04 ∷ 0x01 ∷ []) 17 5 ∷
     faulty (0x01 ∷ 0x20 ∷ 0x00 ∷ 0x00 ∷ 0x12 ∷ 0x01 ∷ []) 17 5 ∷
     faulty (0x01 ∷ 0x20 ∷ 0x00 ∷ 0x00 ∷ 0x10 ∷ 0x00 ∷ 0x07 ∷ 0x02 ∷ 0x01 ∷ []) 17 8 ∷
-    references
+    (references ++ unknown ++ inOrder ++ namedOnce ++ largest ++ onEmpty ++ leftToRight ++ underNots ++ asWritten ++ sharing)
