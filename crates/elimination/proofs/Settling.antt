@@ -144,7 +144,7 @@ module _ (N : ℕ) (defective : Set → ℕ → Bool) where
     steps-sub zero D p h t = t
     steps-sub (suc k) D p h t = step-sub D p h (steps-sub k (step N defective D) p h t)
 
-    steps-suc : (k : ℕ) (D : Set) → steps N defective (suc k) D ≡ step N defective (steps N defective k D)
+    pub steps-suc : (k : ℕ) (D : Set) → steps N defective (suc k) D ≡ step N defective (steps N defective k D)
     steps-suc zero D = refl
     steps-suc (suc k) D = steps-suc k (step N defective D)
 
@@ -165,13 +165,19 @@ module _ (N : ℕ) (defective : Set → ℕ → Bool) where
         (same-by N D (steps N defective (suc k) D) (steps-keeps (suc k) D D (sub-refl N D) r) (steps-sub (suc k) D)) r)
         (λ r. steps-stable k (step N defective D) (omega (arith, step-less D r)))
 
-    pub definition-5-ends : (D : Set) → Same N (steps N defective (size N D) D) (settled N defective D)
-    definition-5-ends D =
-        let k = size N D in
-        let r : T (isStable N defective (steps N defective k D)) = steps-stable k D (omega arith) in
+    -- and every later one is the same
+    steps-settled : (k : ℕ) (D : Set) → size N D ≤ k → Same N (steps N defective k D) (settled N defective D)
+    steps-settled k D l =
         same-by N (steps N defective k D) (settled N defective D)
-        (settled-keeps (steps N defective k D) D (steps-sub k D) r)
+        (settled-keeps (steps N defective k D) D (steps-sub k D) (steps-stable k D l))
         (steps-keeps k (settled N defective D) D (settled-sub D) (settled-stable D))
+
+    pub definition-5-ends : (D : Set) → Same N (steps N defective (size N D) D) (settled N defective D)
+    definition-5-ends D = steps-settled (size N D) D (omega arith)
+
+    pub definition-5-still : (D : Set) → Same N (steps N defective (suc (size N D)) D) (steps N defective (size N D) D)
+    definition-5-still D p h =
+        steps-settled (suc (size N D)) D (omega arith) p h ∙ sym (steps-settled (size N D) D (omega arith) p h)
 
     -- ---- a loop that removes defective members in place, in any order
     pub within-start : (D : Set) → Within N defective D D

@@ -1,4 +1,4 @@
--- Of which condition a domino's defect is the number; a larger set has fewer defective dominoes.
+-- Of which condition a domino's defect is the number; a larger set has fewer defective dominoes, and the same set the same ones.
 use mathlib.Core.Path.{_≡_, refl, sym as flip, ap, subst, _∙_}
 use mathlib.Core.Bool.{Bool, true, false, not, _&&_, _||_, cond}
 use mathlib.Core.List.{List, [], _∷_, _++_}
@@ -6,14 +6,14 @@ use Prim.Native.Nat.{ℕ, _*_, _^_, _≤_, _<_}
 use native.Mathlib.Omega.{arith}
 use lib.Dec.{eqb}
 use Rattle.bitset.specs.Bits.{Set, bit}
-use Rattle.bitset.proofs.Facts.{not-mono, is-true, of-true, and-l, and-r, and-i, imp-e, imp-i}
-use Rattle.elimination.specs.Sets.{some}
+use Rattle.bitset.proofs.Facts.{not-mono, is-true, of-true, and-l, and-r, and-i, imp-e, imp-i, iff-eq}
+use Rattle.elimination.specs.Sets.{some, Same}
 use Rattle.elimination.specs.Elimination.{Monotone}
 use Rattle.elimination.proofs.Settling.{defectiveBy-mono}
 use Rattle.elimination.proofs.Quantifiers.{all-at, all-intro, any-intro, any-found}
 use Rattle.syntax.specs.Bounds.{All}
 use Rattle.semantics.specs.Dominoes.{Dominoes, Domino, number, leftOf, rolesOf, rightOf, inverse, numbered}
-use Rattle.semantics.specs.Conditions.{View, order, firstFailing, FirstFails, kb, ex, uni, witness, delex, deluni, sym, condition, defect, initially, sustained, dominoes, initial, lacks, defective, defectAt}
+use Rattle.semantics.specs.Conditions.{View, order, firstFailing, FirstFails, kb, ex, uni, witness, delex, deluni, sym, condition, defect, initially, sustained, SameDominoes, dominoes, initial, lacks, defective, defectAt}
 use Rattle.semantics.proofs.Numbers.{number-lt, domino-of, inverse-lt}
 
 -- ---- the first number of a list whose test fails
@@ -248,6 +248,47 @@ module _ (v : View) where
   sustained-within D E part A R B a b =
       larger D E A (λ R B r b. part A R B (record { left = a; roles = r; right = b })) R B
       (part B (inverse (v .roles) R) A (record { left = b; roles = inverse-lt (v .roles) R; right = a }))
+
+  -- ---- sets with the same dominoes
+
+  module _ (D E : Dominoes) (same : SameDominoes v D E) (A : ℕ) (a : A < 2 ^ v .parts) where
+    part-of : (R B : ℕ) → R < 2 ^ (2 * v .roles) → B < 2 ^ v .parts → D A R B ≡ true → E A R B ≡ true
+    part-of R B r b e = flip (same A R B (record { left = a; roles = r; right = b })) ∙ e
+
+  module _ (D E : Dominoes) (same : SameDominoes v D E) (A R B : ℕ) (a : A < 2 ^ v .parts) (b : B < 2 ^ v .parts) where
+    other : SameDominoes v E D
+    other A R B d = flip (same A R B d)
+
+    delex-same : delex v D A ≡ delex v E A
+    delex-same =
+        iff-eq (delex v D A) (delex v E A) (delex-mono D E A (part-of D E same A a)) (delex-mono E D A (part-of E D other A a))
+
+    deluni-same : deluni v D A ≡ deluni v E A
+    deluni-same =
+        iff-eq (deluni v D A) (deluni v E A) (deluni-mono D E A (part-of D E same A a)) (deluni-mono E D A (part-of E D other A a))
+
+    sym-same : sym v D A R B ≡ sym v E A R B
+    unfolding sym
+    sym-same = same B (inverse (v .roles) R) A (record { left = b; roles = inverse-lt (v .roles) R; right = a })
+
+    pub sustained-same : sustained v D A R B ≡ sustained v E A R B
+    unfolding sustained
+    sustained-same = rw (delex-same, deluni-same, sym-same)
+
+    pub defect-same : defect v D A R B ≡ defect v E A R B
+    defect-same = rw (defect-cases D A R B, defect-cases E A R B, delex-same, deluni-same, sym-same)
+
+  pub numbered-same : (S U : Set) → Same (dominoes v) S U
+      → SameDominoes v (numbered (v .parts) (v .roles) S) (numbered (v .parts) (v .roles) U)
+  unfolding numbered
+  numbered-same S U e A R B d = e (number (v .parts) (v .roles) A R B) (number-lt (v .parts) (v .roles) A R B d)
+
+  -- the first failing condition of a domino depends on the set's numbers of dominoes alone
+  pub defect-at-same : (S U : Set) → Same (dominoes v) S U → (n : ℕ) → n < dominoes v → defectAt v S n ≡ defectAt v U n
+  unfolding defectAt
+  defect-at-same S U e n h =
+      let d = domino-of (v .parts) (v .roles) n h in
+      defect-same _ _ (numbered-same S U e) _ _ _ (d .left) (d .right)
 
   pub lacks-monotone : Monotone (dominoes v) (lacks v)
   unfolding lacks numbered

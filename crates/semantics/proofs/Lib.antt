@@ -4,6 +4,7 @@ pub mod Flattening
 pub mod Meaning
 pub mod Defects
 pub mod Canonical
+pub mod Stages
 pub mod Projecting
 pub mod Stability
 pub mod Layering

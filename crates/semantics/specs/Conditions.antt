@@ -1,5 +1,5 @@
 -- The six conditions (01, "Pairings and the six conditions"; 002, Definition 5).
-use Prim.Native.Nat.{ℕ, _*_, _^_}
+use Prim.Native.Nat.{ℕ, zero, suc, _*_, _^_}
 use mathlib.Core.Path.{_≡_}
 use mathlib.Core.Bool.{Bool, true, false, not, _&&_, _||_, cond}
 use mathlib.Core.List.{List, [], _∷_, _++_}
@@ -9,7 +9,6 @@ use Rattle.elimination.specs.Sets.{every, some}
 use Rattle.elimination.specs.Elimination.{defectiveBy, canonical}
 use Rattle.syntax.specs.Bounds.{All}
 use Rattle.semantics.specs.Dominoes.{Dominoes, Domino, total, leftOf, rolesOf, rightOf, inverse, numbered}
-use Prim.Native.Nat.{ℕ}
 
 -- what the conditions look at: the number of parts and of roles; of part k its kind (2 existential, 3 universal), whether its
 -- role holds on the role set R, and whether its filler is in the label B; and the labels on which every flattened axiom is true
@@ -86,6 +85,20 @@ module _ (v : View) where
   -- conditions 4 to 6, which depend on the set
   unfoldable pub sustained : Dominoes → ℕ → ℕ → ℕ → Bool
   sustained D A R B = delex D A && (deluni D A && sym D A R B)
+
+  -- 002, Definition 5's 𝔻ᵢ: "𝔻₀ consists of all dominoes ⟨A, R, B⟩ satisfying" kb, ex and uni; "Given a domino set 𝔻ᵢ, the set 𝔻ᵢ₊₁
+  -- consists of all dominoes ⟨A, R, B⟩ ∈ 𝔻ᵢ satisfying" delex, deluni and sym, of 𝔻ᵢ
+  unfoldable pub stage : ℕ → Dominoes
+  stage zero = initially
+  stage (suc i) = λ A R B. stage i A R B && sustained (stage i) A R B
+
+  -- D and E have the same dominoes
+  abbrev pub SameDominoes : Dominoes → Dominoes → Type 0
+  SameDominoes D E = (A R B : ℕ) → Domino (v .parts) (v .roles) A R B → D A R B ≡ E A R B
+
+  -- "The construction of domino sets 𝔻ᵢ₊₁ is continued until 𝔻ᵢ₊₁ = 𝔻ᵢ."
+  abbrev pub Final : ℕ → Type 0
+  Final i = SameDominoes (stage (suc i)) (stage i)
 
   -- nothing is defective in the set D
   unfoldable pub Stable : Dominoes → Type 0
