@@ -1,15 +1,17 @@
--- Laws of sharing (02, N4): what parts alike are, and where the first of them is found.
+-- Laws of sharing (02, N4): which parts are alike, both ways, and where the first of them is found.
 use Prim.Native.Nat.{ℕ, zero, suc, _+_, _≤_, _<_}
 use native.Mathlib.Omega.{arith}
 use native.Mathlib.Decide.{ℕ-discrete}
-use mathlib.Core.Path.{_≡_, refl, sym, ap, ap₂, _∙_}
+use mathlib.Core.Path.{_≡_, refl, sym, ap, _∙_}
 use mathlib.Core.Bool.{Bool, true, false, cond, _&&_, false≢true, and-eq-true-iff}
+use mathlib.Core.Logic.{_↔_}
 use mathlib.Core.Option.{none, some}
 use mathlib.Core.List.{List, [], _∷_, _++_}
 use lib.ListN.{length}
 use Rattle.syntax.specs.Concepts.{Role, Role-discrete}
 use Rattle.syntax.specs.Normal.{Tag}
-use Rattle.syntax.specs.Flatten.{Atom, Atom-discrete, Filler, atomic, fresh, Part, nameP, freshP, existsP, forallP, yesNo, sameRole, sameAtom, sameFiller, likeExists, likeForall, alike, findFrom, shared, partAt}
+use Rattle.syntax.specs.Flatten.{Atom, Atom-discrete, Filler, atomic, fresh, Part, nameP, freshP, existsP, forallP, yesNo, sameRole, sameAtom, sameFiller, likeExists, likeForall, alike, SameRestriction, bothExists, bothForall, findFrom, shared, partAt}
+use Rattle.syntax.specs.Bounds.{PartFiller}
 
 -- ---- equality that is decided
 
@@ -43,24 +45,88 @@ same-filler a (fresh j) e = let z : _≡_ {A = ℕ} 0 1 = cc in absurd (omega ar
 
 -- ---- parts alike
 
+-- 02, N4, one way: the same restriction, whatever the tags, is alike
+same-role-filler : (u : Role) (a : Atom) → sameRole u u && sameFiller (atomic a) (atomic a) ≡ true
+same-role-filler u a = rw (same-role u u refl, same-filler a (atomic a) refl)
+
+pub same-alike : (p q : Part) → SameRestriction p q → alike p q ≡ true
+unfolding alike likeExists likeForall
+same-alike p q (bothExists {u = u} {a = a}) = same-role-filler u a
+same-alike p q (bothForall {u = u} {a = a}) = same-role-filler u a
+
+-- the other way
+kind-same : (kind : Tag → Role → Filler → Part) →
+    ((g h : Tag) (u : Role) (a : Atom) → SameRestriction (kind g u (atomic a)) (kind h u (atomic a))) →
+    (g h : Tag) (u v : Role) (f e : Filler) → sameRole u v && sameFiller f e ≡ true → SameRestriction (kind g u f) (kind h v e)
+unfolding sameFiller
+kind-same kind both g h u v (atomic a) e y =
+    let w = and-eq-true-iff (sameRole u v) (sameFiller (atomic a) e) .0 y in
+    rw (← role-same u v (w .0), filler-same a e (w .1)) (both g h u a)
+kind-same kind both g h u v (fresh j) e y = absurd (false≢true (and-eq-true-iff (sameRole u v) false .0 y .1))
+
+pub alike-same : (p q : Part) → alike p q ≡ true → SameRestriction p q
+unfolding alike likeExists likeForall
+alike-same (nameP t) q y = absurd (false≢true y)
+alike-same (freshP g c) q y = absurd (false≢true y)
+alike-same (existsP g u f) (nameP t) y = absurd (false≢true y)
+alike-same (existsP g u f) (freshP h c) y = absurd (false≢true y)
+alike-same (existsP g u f) (existsP h v e) y = kind-same existsP (λ g h u a. bothExists) g h u v f e y
+alike-same (existsP g u f) (forallP h v e) y = absurd (false≢true y)
+alike-same (forallP g u f) (nameP t) y = absurd (false≢true y)
+alike-same (forallP g u f) (freshP h c) y = absurd (false≢true y)
+alike-same (forallP g u f) (existsP h v e) y = absurd (false≢true y)
+alike-same (forallP g u f) (forallP h v e) y = kind-same forallP (λ g h u a. bothForall) g h u v f e y
+
+-- two parts are alike exactly if they are the same restriction with an atom for its filler
+pub alike-exactly : (p q : Part) → alike p q ≡ true ↔ SameRestriction p q
+alike-exactly p q = (alike-same p q, same-alike p q)
+
+pub other-unalike : (p q : Part) → (SameRestriction p q → ⊥) → alike p q ≡ false
+other-unalike p q n = go (alike p q) refl
+  where
+    go : (b : Bool) → alike p q ≡ b → alike p q ≡ false
+    go true y = absurd (n (alike-same p q y))
+    go false y = y
+
+-- alike is symmetric
+same-reversed : {p q : Part} → SameRestriction p q → SameRestriction q p
+same-reversed bothExists = bothExists
+same-reversed bothForall = bothForall
+
+pub unalike-reversed : (p q : Part) → alike p q ≡ false → alike q p ≡ false
+unalike-reversed p q n = other-unalike q p (λ s. false≢true (sym n ∙ same-alike p q (same-reversed s)))
+
+-- a name, a fresh name and a restriction whose filler is a fresh name are like no part, not even like themselves
+abbrev pub FreshFiller : Filler → Type 0
+FreshFiller (atomic a) = ⊥
+FreshFiller (fresh j) = Unit
+
+unshared-other : (p q : Part) → PartFiller FreshFiller p → SameRestriction p q → ⊥
+unshared-other p q n bothExists = n
+unshared-other p q n bothForall = n
+
+pub unshared-unalike : (p q : Part) → PartFiller FreshFiller p → (alike p q ≡ false) × (alike q p ≡ false)
+unshared-unalike p q n = let o = other-unalike p q (unshared-other p q n) in (o, unalike-reversed p q o)
+
 -- a part like a restriction is one of the same kind, role and filler
+exists-same : {g : Tag} {u : Role} {a : Atom} (q : Part) → SameRestriction (existsP g u (atomic a)) q → (h : Tag) × (q ≡ existsP h u (atomic a))
+exists-same q (bothExists {h = h}) = (h, refl)
+
+forall-same : {g : Tag} {u : Role} {a : Atom} (q : Part) → SameRestriction (forallP g u (atomic a)) q → (h : Tag) × (q ≡ forallP h u (atomic a))
+forall-same q (bothForall {h = h}) = (h, refl)
+
 pub exists-alike : (g : Tag) (u : Role) (a : Atom) (q : Part) → alike (existsP g u (atomic a)) q ≡ true → (h : Tag) × (q ≡ existsP h u (atomic a))
-unfolding alike likeExists
-exists-alike g u a (nameP t) e = absurd (false≢true e)
-exists-alike g u a (freshP h c) e = absurd (false≢true e)
-exists-alike g u a (existsP h v f) e =
-    let w = and-eq-true-iff (sameRole u v) (sameFiller (atomic a) f) .0 e in
-    (h, ap₂ (existsP h) (sym (role-same u v (w .0))) (filler-same a f (w .1)))
-exists-alike g u a (forallP h v f) e = absurd (false≢true e)
+exists-alike g u a q y = exists-same q (alike-same (existsP g u (atomic a)) q y)
 
 pub forall-alike : (g : Tag) (u : Role) (a : Atom) (q : Part) → alike (forallP g u (atomic a)) q ≡ true → (h : Tag) × (q ≡ forallP h u (atomic a))
-unfolding alike likeForall
-forall-alike g u a (nameP t) e = absurd (false≢true e)
-forall-alike g u a (freshP h c) e = absurd (false≢true e)
-forall-alike g u a (existsP h v f) e = absurd (false≢true e)
-forall-alike g u a (forallP h v f) e =
-    let w = and-eq-true-iff (sameRole u v) (sameFiller (atomic a) f) .0 e in
-    (h, ap₂ (forallP h) (sym (role-same u v (w .0))) (filler-same a f (w .1)))
+forall-alike g u a q y = forall-same q (alike-same (forallP g u (atomic a)) q y)
+
+-- a restriction with an atom for its filler is like itself
+pub exists-self : (g : Tag) (u : Role) (a : Atom) → alike (existsP g u (atomic a)) (existsP g u (atomic a)) ≡ true
+exists-self g u a = same-alike (existsP g u (atomic a)) (existsP g u (atomic a)) bothExists
+
+pub forall-self : (g : Tag) (u : Role) (a : Atom) → alike (forallP g u (atomic a)) (forallP g u (atomic a)) ≡ true
+forall-self g u a = same-alike (forallP g u (atomic a)) (forallP g u (atomic a)) bothForall
 
 -- ---- the first part alike
 
@@ -115,6 +181,22 @@ pub find-none : (p : Part) (so : List Part) → ((i : ℕ) → i < length so →
 unfolding shared
 find-none p so f = find-nowhere p 0 so f
 
+-- none found: none is alike
+none-from : (p : Part) (k : ℕ) (ps : List Part) → findFrom p k ps ≡ none → (i : ℕ) → i < length ps → alike p (partAt ps i) ≡ false
+unfolding findFrom
+none-from p k [] e i l = absurd (omega arith)
+none-from p k (q ∷ ps) e i l = at (alike p q) refl (none-from p (suc k) ps) e i l
+  where
+    at : (b : Bool) → alike p q ≡ b → (findFrom p (suc k) ps ≡ none → (i : ℕ) → i < length ps → alike p (partAt ps i) ≡ false) →
+        cond b (some k) (findFrom p (suc k) ps) ≡ none → (i : ℕ) → i < suc (length ps) → alike p (partAt (q ∷ ps) i) ≡ false
+    at true a ih e i l = let z : _≡_ {A = ℕ} 0 1 = cc in absurd (omega arith)
+    at false a ih e zero l = a
+    at false a ih e (suc i) l = ih e i (omega arith)
+
+pub none-found : (p : Part) (so : List Part) → shared p so ≡ none → (i : ℕ) → i < length so → alike p (partAt so i) ≡ false
+unfolding shared
+none-found p so e = none-from p 0 so e
+
 -- among more parts: the same place; or, where none was alike and p comes next, its own
 find-grown : (p : Part) (k : ℕ) (so rest : List Part) (j : ℕ) → findFrom p k so ≡ some j → findFrom p k (so ++ rest) ≡ some j
 unfolding findFrom
@@ -143,15 +225,3 @@ find-next p k (q ∷ so) rest a e = at (alike p q) (find-next p (suc k) so rest 
 pub find-here : (p : Part) (so rest : List Part) → alike p p ≡ true → shared p so ≡ none → shared p (so ++ (p ∷ rest)) ≡ some (length so)
 unfolding shared
 find-here p so rest a e = find-next p 0 so rest a e ∙ ap some (omega arith)
-
--- a restriction with an atom for its filler is like itself
-self : (u : Role) (a : Atom) → sameRole u u && sameFiller (atomic a) (atomic a) ≡ true
-self u a = rw (same-role u u refl, same-filler a (atomic a) refl)
-
-pub exists-self : (g : Tag) (u : Role) (a : Atom) → alike (existsP g u (atomic a)) (existsP g u (atomic a)) ≡ true
-unfolding alike likeExists
-exists-self g u a = self u a
-
-pub forall-self : (g : Tag) (u : Role) (a : Atom) → alike (forallP g u (atomic a)) (forallP g u (atomic a)) ≡ true
-unfolding alike likeForall
-forall-self g u a = self u a

@@ -89,6 +89,11 @@ alike (freshP g c) q = false
 alike (existsP g u f) q = likeExists u f q
 alike (forallP g u f) q = likeForall u f q
 
+-- 02, N4, as a relation: the same kind, role tree and atom, whatever the tags
+pub data SameRestriction : Part → Part → Type 0 where
+  bothExists : {g h : Tag} {u : Role} {a : Atom} → SameRestriction (existsP g u (atomic a)) (existsP h u (atomic a))
+  bothForall : {g h : Tag} {u : Role} {a : Atom} → SameRestriction (forallP g u (atomic a)) (forallP h u (atomic a))
+
 -- the number of the first part like p, of parts whose numbers begin at k
 unfoldable pub findFrom : Part → ℕ → List Part → Option ℕ
 findFrom p k [] = none
