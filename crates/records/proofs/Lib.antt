@@ -1,4 +1,5 @@
 pub mod Entries
+pub mod Faultless
 pub mod Faults
 pub mod KindTable
 pub mod Places

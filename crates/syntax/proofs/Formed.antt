@@ -1,5 +1,5 @@
 -- What the records of a sheet that is read are like.
-use Prim.Native.Nat.{ℕ, zero, suc, _+_, _-_, _*_, _≤_, _<_, max}
+use Prim.Native.Nat.{ℕ, zero, suc, _+_, _*_, _≤_, _<_, max}
 use mathlib.Core.Path.{_≡_, refl, sym, ap, _∙_}
 use mathlib.Core.Logic.{_⊎_, ⊎-elim}
 use mathlib.Core.Bool.{Bool, true, false, cond, _&&_}
@@ -13,12 +13,12 @@ use Rattle.bitset.specs.Bits.{bit}
 use Rattle.bitset.proofs.Laws.{bit-past}
 use Rattle.records.specs.declared.Shape.{Shape}
 use Rattle.records.specs.declared.Entry.{Entry}
-use Rattle.records.specs.declared.Fault.{Fault}
 use Rattle.records.specs.Shapes.{shapeOf, isLeaf, isRestriction}
-use Rattle.records.specs.Scan.{State, start, blank, recordAt, faultAt, firstOf, faultPlace, orElse, numberFault, sortFault, againFault, referenceFault, naming, name, emptyFault, bodyFault, vacuousOf, entryFor, namesAfter, rolesAfter, after, bodyByte, shapeAt, recordFault, recordAfter, refused, whole, scan, scanSheet}
+use Rattle.records.specs.Scan.{State, start, blank, recordAt, numberFault, referenceFault, naming, name, emptyFault, bodyFault, vacuousOf, entryFor, namesAfter, rolesAfter, after, recordFault, recordAfter, whole, scanSheet}
 use Rattle.syntax.specs.Concepts.{Node, asRole, noNode, roleAt, nodeOf, nodesOf}
 use Rattle.syntax.specs.Truth.{roleOn}
 use Rattle.records.proofs.KindTable.{kind-cases, vacuous-unknown}
+use Rattle.records.proofs.Faultless.{none-of-body, reference-right, bodyAt, record-right, scan-keeps}
 use Rattle.syntax.proofs.Trees.{nodeBy, node-is, node-unknown}
 
 -- a record as written, without the flag that a later one names it
@@ -92,54 +92,15 @@ record Good (room : ℕ) (st : State) : Type 0 where
   names : st .names ≤ 12
   roles : st .roles ≤ 4
 
--- no fault of two; of several; of a body's four
-neither : (f g : ℕ) → orElse f g ≡ 0 → (f ≡ 0) × (g ≡ 0)
-neither f g = go (eqb f 0) refl
-  where
-    go : (b : Bool) → eqb f 0 ≡ b → cond b g f ≡ 0 → (f ≡ 0) × (g ≡ 0)
-    go true q p = (eqb-true f 0 q, p)
-    go false q p = absurd (eqb-false f 0 q p)
-
-none-first : (i f : ℕ) (fs : List Fault) → firstOf (faultAt i f ∷ fs) .number ≡ 0 → (f ≡ 0) × (firstOf fs .number ≡ 0)
-none-first i f fs = go (eqb f 0) refl
-  where
-    go : (b : Bool) → eqb f 0 ≡ b → cond b (firstOf fs) (faultAt i f) .number ≡ 0 → (f ≡ 0) × (firstOf fs .number ≡ 0)
-    go true q p = (eqb-true f 0 q, p)
-    go false q p = absurd (eqb-false f 0 q p)
-
-none-of-body : (f g h l : ℕ) → firstOf (faultAt 0 f ∷ faultAt 1 g ∷ faultAt 2 h ∷ faultAt 0 l ∷ []) .number ≡ 0 →
-    (f ≡ 0) × (g ≡ 0) × (h ≡ 0) × (l ≡ 0)
-none-of-body f g h l p =
-    let w = none-first 0 f (faultAt 1 g ∷ faultAt 2 h ∷ faultAt 0 l ∷ []) p in
-    let x = none-first 1 g (faultAt 2 h ∷ faultAt 0 l ∷ []) (w .1) in
-    let y = none-first 2 h (faultAt 0 l ∷ []) (x .1) in
-    (w .0, x .0, y .0, none-first 0 l [] (y .1) .0)
-
 -- each record has the sort of its kind
 abbrev Sorted : List Entry → Type 0
 Sorted es = (r : ℕ) → r < length es → recordAt es r .sort ≡ shapeOf (recordAt es r .kind) .sort
 
-sort-same : (wanted found : ℕ) → sortFault wanted found ≡ 0 → found ≡ wanted
-sort-same wanted found = go (eqb found wanted) refl (eqb found 1) (eqb found 2)
-  where
-    go : (a : Bool) → eqb found wanted ≡ a → (b c : Bool) → _≡_ {A = ℕ} (cond a 0 (cond b 16 (cond c 6 17))) 0 → found ≡ wanted
-    go true q b c p = eqb-true found wanted q
-    go false q true c p = absurd (omega arith)
-    go false q false true p = absurd (omega arith)
-    go false q false false p = absurd (omega arith)
-
 reference-finds : (es xs : List Entry) → bare es ≡ xs → Sorted xs → (wanted r : ℕ) → referenceFault es wanted r ≡ 0 → Finds xs (length xs) wanted r
-unfolding referenceFault
-reference-finds es xs x s wanted r = go (eqb wanted 0) refl (leb (length es) r) refl
+reference-finds es xs x s wanted r p n = (within, sym (s r within) ∙ rw (← x, bare-at es r) (reference-right es wanted r p n .1))
   where
-    go : (b : Bool) → eqb wanted 0 ≡ b → (c : Bool) → leb (length es) r ≡ c →
-        cond b 0 (cond c 5 (orElse (sortFault wanted (recordAt es r .sort)) (againFault (recordAt es r)))) ≡ 0 → Finds xs (length xs) wanted r
-    go true q c k p n = absurd (n (eqb-true wanted 0 q))
-    go false q true k p n = absurd (omega arith)
-    go false q false k p n = (within, sym (s r within) ∙ rw (← x, bare-at es r) (sort-same wanted (recordAt es r .sort) (neither _ _ p .0)))
-      where
-        within : r < length xs
-        within = rw (← x, length-map) (leb-false (length es) r k)
+    within : r < length xs
+    within = rw (← x, length-map) (reference-right es wanted r p n .0)
 
 empty-restricted : (es xs : List Entry) → bare es ≡ xs → (s : Shape) (a : ℕ) → emptyFault es s a ≡ 0 → isRestriction s ≡ true → recordAt xs a .vacuous ≡ false
 unfolding emptyFault
@@ -155,11 +116,8 @@ vacuous-bare es xs x k a b = rw (← x, bare-at es a, bare-at es b)
 
 -- a record without fault, after those that were read
 new-right : (es xs : List Entry) → bare es ≡ xs → Sorted xs → (k a b : ℕ) → (shapeOf k .sort ≡ 0 → ⊥) → bodyFault es (shapeOf k) a b .number ≡ 0 → Right xs (entryFor es k a b)
-unfolding bodyFault
 new-right es xs x s k a b n p =
-    let w =
-    none-of-body (numberFault (shapeOf k) a) (referenceFault es (shapeOf k .first) a)
-    (referenceFault (name es (shapeOf k .first) a) (shapeOf k .second) b) (emptyFault es (shapeOf k) a) p in
+    let w = none-of-body es (shapeOf k) a b p in
     record {
       formed =
           record {
@@ -264,41 +222,14 @@ after-good room st k a b n p g =
     now = record { name = more .1; named = most .1; inverse = most .2 }
 
 record-good : (sheet : List ℕ) (room : ℕ) (st : State) → recordFault sheet st .number ≡ 0 → Good (suc room) st → Good room (recordAfter sheet st)
-unfolding recordFault recordAfter
-record-good sheet room st p g = go (eqb (shape .sort) 0) refl (ltb (length sheet - (st .at + 1)) (shape .body)) p
-  where
-    shape : Shape
-    shape = shapeAt sheet (st .at)
-
-    go : (b : Bool) → eqb (shape .sort) 0 ≡ b → (c : Bool) →
-        cond b (faultAt 0 1) (cond c (faultAt 0 2) (bodyFault (st .records) shape (bodyByte sheet (st .at) shape 1) (bodyByte sheet (st .at) shape 2))) .number ≡ 0 →
-        Good room (after st (getD sheet (st .at) 0) (bodyByte sheet (st .at) shape 1) (bodyByte sheet (st .at) shape 2))
-    go true q c p = absurd (omega arith)
-    go false q true p = absurd (omega arith)
-    go false q false p = after-good room st (getD sheet (st .at) 0) (bodyByte sheet (st .at) shape 1) (bodyByte sheet (st .at) shape 2) (eqb-false (shape .sort) 0 q) p g
-
--- what each record without fault keeps holds at the end
-scan-keeps : (P : ℕ → State → Type 0) (sheet : List ℕ) → ((room : ℕ) (st : State) → recordFault sheet st .number ≡ 0 → P (suc room) st → P room (recordAfter sheet st)) →
-    (room : ℕ) (st u : State) → P room st → scan room sheet st ≡ whole u → (n : ℕ) × P n u
-unfolding scan
-scan-keeps P sheet f zero st u h e = go (ltb (st .at) (length sheet)) e
-  where
-    go : (b : Bool) → cond b (refused 3 (st .at)) (whole st) ≡ whole u → (n : ℕ) × P n u
-    go true p = let z : _≡_ {A = ℕ} 0 1 = cc in absurd (omega arith)
-    go false p = let q : st ≡ u = cc in (zero, rw q at h)
-scan-keeps P sheet f (suc room) st u h e =
-    go (ltb (st .at) (length sheet)) (eqb (recordFault sheet st .number) 0) refl (λ q. scan-keeps P sheet f room (recordAfter sheet st) u (f room st q h)) e
-  where
-    go : (b c : Bool) → eqb (recordFault sheet st .number) 0 ≡ c → (recordFault sheet st .number ≡ 0 → scan room sheet (recordAfter sheet st) ≡ whole u → (n : ℕ) × P n u) →
-        cond b (cond c (scan room sheet (recordAfter sheet st)) (refused (recordFault sheet st .number) (faultPlace st (recordFault sheet st)))) (whole st) ≡ whole u →
-        (n : ℕ) × P n u
-    go true true t i p = i (eqb-true (recordFault sheet st .number) 0 t) p
-    go true false t i p = let z : _≡_ {A = ℕ} 0 1 = cc in absurd (omega arith)
-    go false c t i p = let q : st ≡ u = cc in (suc room, rw q at h)
+unfolding recordAfter
+record-good sheet room st p g =
+    let w = record-right sheet st p in
+    after-good room st (getD sheet (st .at) 0) (bodyAt sheet st 1) (bodyAt sheet st 2) (w .0) (w .2) g
 
 read-good : (sheet : List ℕ) (st : State) → scanSheet sheet ≡ whole st → (n : ℕ) × Good n st
 unfolding scanSheet
-read-good sheet st e = scan-keeps Good sheet (record-good sheet) 255 start st first e
+read-good sheet st e = let w = scan-keeps Good sheet (λ room st l. record-good sheet room st) 255 start st first e in (w .0, w .1)
   where
     first : Good 255 start
     first = record { few = omega arith; right = λ r l. absurd (omega arith); counted = λ r l. absurd (omega arith); names = omega arith; roles = omega arith }
