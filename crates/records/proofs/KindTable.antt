@@ -1,14 +1,14 @@
 -- The rules of the table of kinds: what each row's shape passes, and a kind is one of the table's or its record stands for nothing.
 use Prim.Native.Nat.{ℕ, zero, suc, _+_, _-_, _*_, _≤_, _<_}
 use mathlib.Core.Path.{_≡_, refl}
-use mathlib.Core.Bool.{Bool, true, false, cond, _&&_}
+use mathlib.Core.Bool.{Bool, true, false, cond, _&&_, _||_}
 use mathlib.Core.List.{List, [], _∷_}
 use lib.Dec.{T, eqb, leb, ltb, eqb→eq, leb→le}
 use native.Mathlib.Omega.{arith}
 use borrow.Author.Tests.{eqb-true, eqb-false, leb-true, ltb-true, ltb-false}
 use Rattle.records.specs.declared.Shape.{Shape}
 use Rattle.records.specs.declared.Entry.{Entry}
-use Rattle.records.specs.Shapes.{Row, rows, rowed, unknown, within, shaped, shapeOf}
+use Rattle.records.specs.Shapes.{Row, rows, rowed, unknown, within, shaped, shapeOf, isLeaf}
 use Rattle.records.specs.Scan.{vacuousOf}
 
 left : (a b : Bool) → T (a && b) → T a
@@ -157,6 +157,13 @@ pub known-cases : (P : ℕ → Type 0) → P 0x01 → P 0x02 → P 0x03 → P 0x
     P 0x14 → P 0x20 → (k : ℕ) → (shapeOf k .sort ≡ 0 → ⊥) → P k
 known-cases P p1 p2 p3 p4 p5 p6 p7 p8 p10 p11 p12 p13 p14 p20 k known =
     kind-cases P p1 p2 p3 p4 p5 p6 p7 p8 p10 p11 p12 p13 p14 p20 k (λ u. absurd (known u))
+
+-- "Records of kinds 01, 02, 03, 10, 11 may be named often": of the known kinds, the leaves
+pub leaf-kinds : (k : ℕ) → (shapeOf k .sort ≡ 0 → ⊥) → isLeaf (shapeOf k) ≡ (within 0x01 0x03 k || within 0x10 0x11 k)
+unfolding shapeOf isLeaf
+leaf-kinds =
+    known-cases (λ k. isLeaf (shapeOf k) ≡ (within 0x01 0x03 k || within 0x10 0x11 k))
+    refl refl refl refl refl refl refl refl refl refl refl refl refl refl
 
 -- an unknown kind is none of those with a row
 pub other : (k c : ℕ) → shapeOf k .sort ≡ 0 → T (ltb 0 (shapeOf c .sort)) → eqb k c ≡ false

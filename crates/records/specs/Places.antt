@@ -1,14 +1,16 @@
--- Where the place of a fault lies: where a record starts, and where a reference stands in it (02, N6).
+-- Where the place of a fault lies: where a record starts, and where a reference stands in it (02, N6); and which records the references
+-- name (01).
 use Prim.Native.Nat.{ℕ, zero, suc, _+_, _-_, _≤_, _<_}
 use mathlib.Core.Path.{_≡_}
-use mathlib.Core.Logic.{_⊎_}
+use mathlib.Core.Logic.{_⊎_, _↔_}
 use mathlib.Core.Bool.{Bool, true, false, cond, _||_}
 use mathlib.Core.List.{List}
 use lib.ListN.{length, getD}
 use lib.Dec.{eqb}
 use Rattle.records.specs.declared.Shape.{Shape}
+use Rattle.records.specs.declared.Entry.{Entry}
 use Rattle.records.specs.Shapes.{within, isLeaf}
-use Rattle.records.specs.Scan.{shapeAt}
+use Rattle.records.specs.Scan.{recordAt, shapeAt}
 
 -- the byte where record n starts: "Records follow one another", each behind the body of the one before it
 unfoldable pub startOf : List ℕ → ℕ → ℕ
@@ -46,6 +48,13 @@ wantedBy {sheet = sheet} {p = p} r = wantedAt (shapeAt sheet (r .from)) (p - r .
 abbrev pub namedShape : List ℕ → ℕ → Shape
 namedShape sheet p = shapeAt sheet (startOf sheet (getD sheet p 0))
 
+-- "already named once": a reference before byte p names record m
+pub record NamedBefore (sheet : List ℕ) (m p : ℕ) : Type 0 where
+  pub by : ℕ
+  pub reference : Reference sheet by
+  pub before : by < p
+  pub names : getD sheet by 0 ≡ m
+
 -- what is wrong with it, by the number n of its fault
 pub record Misnames (sheet : List ℕ) (n p : ℕ) (r : Reference sheet p) : Type 0 where
   -- 5: "not an earlier record"
@@ -56,7 +65,20 @@ pub record Misnames (sheet : List ℕ) (n p : ℕ) (r : Reference sheet p) : Typ
   pub a-concept : n ≡ 16 → (wantedBy r ≡ 2) × (namedShape sheet p .sort ≡ 1)
   pub an-axiom : n ≡ 17 → namedShape sheet p .sort ≡ 3
   -- 7: "already named once and not allowed again", so of the sort wanted, and no leaf
-  pub again : n ≡ 7 → (namedShape sheet p .sort ≡ wantedBy r) × (isLeaf (namedShape sheet p) ≡ false)
+  pub again : n ≡ 7 →
+      (namedShape sheet p .sort ≡ wantedBy r) × (isLeaf (namedShape sheet p) ≡ false) × NamedBefore sheet (getD sheet p 0) p
+
+-- how the references of a sheet without fault name its records es (`KindTable.leaf-kinds`: the leaves are the kinds that 01 lists)
+pub record NamedRightly (sheet : List ℕ) (es : List Entry) : Type 0 where
+  -- "a reference is one byte naming an earlier record", of the sort wanted
+  pub earlier : (p : ℕ) (r : Reference sheet p) → (getD sheet p 0 < r .number) × (namedShape sheet p .sort ≡ wantedBy r)
+  -- "Records of kinds 01, 02, 03, 10, 11 may be named often; every other record at most once"
+  pub once : (p q : ℕ) → Reference sheet p → Reference sheet q → getD sheet p 0 ≡ getD sheet q 0 →
+      isLeaf (namedShape sheet p) ≡ false → p ≡ q
+  -- "a rule never"
+  pub no-axiom : (p : ℕ) → Reference sheet p → namedShape sheet p .sort ≡ 3 → ⊥
+  -- a record is marked as named exactly if some reference of the sheet names it
+  pub flag : (m : ℕ) → m < length es → (recordAt es m .named ≡ true) ↔ NamedBefore sheet m (length sheet)
 
 -- the faults of a record as a whole: "Faults 1 to 4 and 8 keep their places", the byte where the offending record starts
 unfoldable pub isRecordFault : ℕ → Bool

@@ -11,6 +11,8 @@ use lib.Seq.{getD-at}
 use lib.Dec.{leb}
 use borrow.Author.Tests.{leb-true}
 use Rattle.records.specs.Scan.{State, Scanning, refused, whole, scanSheet}
+use Rattle.records.specs.Places.{NamedRightly}
+use Rattle.records.proofs.Namings.{read-named}
 use Rattle.syntax.specs.Concepts.{Role, Axiom}
 use Rattle.syntax.specs.Normal.{Tag, Nf, topN, bottomN, nameN, notN, andN, orN, existsN, forallN}
 use Rattle.syntax.specs.Flatten.{Atom, everything, nothing, nameA, Filler, atomic, fresh, Part, nameP, freshP, existsP, forallP, atom, Pending, whole as wholeP, guarded, Walked, Lookup, shared, placed, meetOne, walkBy, walkPendingBy, runBy, weights, nameParts, pendings, flattenBy, noPart, partAt}
@@ -231,6 +233,10 @@ module _ (limit : ℕ) (sheet : List ℕ) {k : Kb} (e : readKb limit sheet ≡ k
 
   pub kb-small : length (partsOf k) + k .roles ≤ limit
   kb-small = kb-whole limit sheet k e .3
+
+  -- its references name its records rightly
+  pub kb-named : (st : State) × (scanSheet sheet ≡ whole st) × (k ≡ kbOf st) × NamedRightly sheet (st .records)
+  kb-named = let w = kb-state in (w .0, w .1, w .2, read-named sheet (w .0) (w .1))
 
   pub kb-few : (k .names ≤ 12) × (k .roles ≤ 4)
   kb-few = let w = kb-state in rw (w .2) (read-few sheet (w .0) (w .1))
