@@ -15,13 +15,14 @@ use Rattle.records.specs.Places.{NamedRightly}
 use Rattle.records.proofs.Namings.{read-named}
 use Rattle.syntax.specs.Concepts.{Role, Axiom}
 use Rattle.syntax.specs.Normal.{Tag, Nf, topN, bottomN, nameN, notN, andN, orN, existsN, forallN}
-use Rattle.syntax.specs.Flatten.{Atom, everything, nothing, nameA, Filler, atomic, fresh, Part, nameP, freshP, existsP, forallP, atom, Pending, whole as wholeP, guarded, Walked, Lookup, shared, placed, meetOne, walkBy, walkPendingBy, runBy, weights, nameParts, pendings, flattenBy, noPart, partAt}
+use Rattle.syntax.specs.Flatten.{Atom, everything, nothing, nameA, Filler, atomic, fresh, Part, nameP, freshP, existsP, forallP, atom, Pending, whole as wholeP, guarded, Walked, alike, SameRestriction, Lookup, shared, placed, meetOne, walkBy, walkPendingBy, runBy, weights, nameParts, pendings, flattenBy, noPart, partAt}
 use Rattle.syntax.specs.Truth.{roleOn}
 use Rattle.syntax.specs.Reading.{Kb, refusal, kb, kbOf, partsOf, admit, reading, readKb}
 use Rattle.syntax.specs.Bounds.{All, RolesBelow, AxiomNames, AxiomRoles, AxiomsBelow, PartRole, PartFiller, FillerLow, PartLow, FillerPlain, PartPlain}
 use Rattle.syntax.proofs.NormalForm.{EachNf, axiom-forms}
 use Rattle.syntax.proofs.Formed.{read-few}
 use Rattle.syntax.proofs.Bounded.{read-bounded, axioms-restricted}
+use Rattle.syntax.proofs.Distinct.{parts-distinct, distinct-one}
 use Rattle.syntax.proofs.Queue.{names-length, left-start, left-grows, left-part}
 
 -- The names are the first parts.
@@ -261,3 +262,10 @@ module _ (limit : ℕ) (sheet : List ℕ) {k : Kb} (e : readKb limit sheet ≡ k
 
   pub kb-part-restricted : (i : ℕ) → PartRole (λ u. roleOn u 0 ≡ false) (partAt (partsOf k) i)
   kb-part-restricted = parts-roles shared (k .names) (λ u. roleOn u 0 ≡ false) (k .axioms) (kb-bounded .names) kb-restricted
+
+  -- no two parts are alike; so parts of the same kind, role tree and atom are one part
+  pub kb-distinct : (i j : ℕ) → i < j → alike (partAt (partsOf k) i) (partAt (partsOf k) j) ≡ false
+  kb-distinct = parts-distinct (k .names) (k .axioms)
+
+  pub kb-one-part : (i j : ℕ) → SameRestriction (partAt (partsOf k) i) (partAt (partsOf k) j) → i ≡ j
+  kb-one-part = distinct-one (partsOf k) kb-distinct
