@@ -6,6 +6,7 @@ pub mod Defects
 pub mod Canonical
 pub mod Stages
 pub mod Projecting
+pub mod Sharing
 pub mod Stability
 pub mod Layering
 pub mod Rising
