@@ -14,17 +14,18 @@ use Rattle.bitset.proofs.Facts.{either, T-of, is-true, of-true}
 use Rattle.bitset.proofs.Sizes.{size-none}
 use Rattle.bitset.proofs.RunLaws.{words-room}
 use Rattle.elimination.specs.Sets.{Same}
-use Rattle.elimination.specs.Elimination.{isStable, steps}
-use Rattle.elimination.proofs.Settling.{stable-same, canonical-largest, definition-5}
+use Rattle.elimination.specs.Elimination.{isStable}
+use Rattle.elimination.proofs.Settling.{stable-same, canonical-largest}
 use Rattle.elimination.proofs.Written.{written-look, written-spare, written-ones}
 use Rattle.syntax.specs.Reading.{Kb, kb, readKb}
 use Rattle.syntax.specs.Answers.{limit}
-use Rattle.semantics.specs.Dominoes.{Met, Domino, number, leftOf, rolesOf, rightOf, inverse, unnumbered}
+use Rattle.semantics.specs.Dominoes.{Met, Domino, number, leftOf, rolesOf, rightOf, inverse, numbered, unnumbered}
 use Rattle.semantics.specs.Conditions.{View, dominoes, initial, lacks, defective, canon, canonDominoes, held}
 use Rattle.semantics.specs.Views.{kbView}
 use Rattle.semantics.proofs.Numbers.{number-lt, left-number}
 use Rattle.semantics.proofs.Defects.{lacks-monotone, defective-monotone}
 use Rattle.semantics.proofs.Canonical.{dominoesOf, of-domino, of-number, of-unnumbered, canon-stable, canon-largest, canon-sym, canon-begins}
+use Rattle.semantics.proofs.Stages.{final-canon, final-reached}
 use Rattle.semantics.proofs.Verdict.{sheet-verdict, model-dominoes}
 use Rattle.domino.specs.Answers.{judgeSays, judgeLeaves}
 use Rattle.domino.specs.Demanded.{Demand2, NeverStranded, Demand2Models}
@@ -51,12 +52,6 @@ module _ (v : View) where
   pub canon-most : (F : Set) → T (isStable (dominoes v) (defective v) F) → (n : ℕ) → n < dominoes v → T (F n) → T (canon v n)
   unfolding canon
   canon-most F r = canonical-largest (dominoes v) (initial v) (lacks v) (lacks-monotone v) F r
-
-  canon-definition-5 : (i : ℕ)
-      → Same (dominoes v) (steps (dominoes v) (defective v) (suc i) (initial v)) (steps (dominoes v) (defective v) i (initial v))
-      → Same (dominoes v) (steps (dominoes v) (defective v) i (initial v)) (canon v)
-  unfolding canon
-  canon-definition-5 i e = definition-5 (dominoes v) (defective v) (defective-monotone v) i (initial v) e
 
 -- a set whose size is not 0 has a member
 size-member : (n : ℕ) (D : Set) → (size n D ≡ 0 → ⊥) → (p : ℕ) × (p < n) × T (D p)
@@ -105,6 +100,7 @@ module _ (k : Kb) (ws : List ℕ) (h : held (kbView k) ≤ length ws) where
   verdict-is met false q e = inl (e, some-left (kbView k) (eqb-false (size (dominoes (kbView k)) (canon (kbView k))) 0 q))
 
   judging-is : T (areWords ws) → Demand2 (kb k) (kbView k) ws
+  unfolding numbered
   judging-is t =
       let v : View = kbView k in
       let same = judged in
@@ -117,7 +113,10 @@ module _ (k : Kb) (ws : List ℕ) (h : held (kbView k) ≤ length ws) where
             (stable-same (dominoes v) (defective v) (defective-monotone v) (canon v) (look (judgeLeaves (kb k) ws))
             (λ p l. flip (same p l)) (canon-stable v));
         most = λ vs r p l u. T-of (flip (same p l)) (canon-most v (look vs) (words-stable v vs r) p l u);
-        definition-5 = λ i e p l. same p l ∙ flip (canon-definition-5 v i e p l);
+        definition-5 = λ i f A R B d.
+            same (number (v .parts) (v .roles) A R B) (number-lt (v .parts) (v .roles) A R B d)
+            ∙ canon-number v A R B d ∙ flip (final-canon v i f A R B d);
+        definition-5-ends = final-reached v;
         verdict = λ o n m e. verdict-is m (eqb (size (dominoes v) (canon v)) 0) refl (values o n m e .2);
         counts = λ o n m e.
             let w = values o n m e in (

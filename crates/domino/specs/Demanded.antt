@@ -1,22 +1,22 @@
 -- What the request's demands 1 to 3 say of the answers and of the words left. Proved in proofs/Demand1.antt, Demand2.antt and
 -- Demand3.antt.
-use Prim.Native.Nat.{ℕ, suc, _*_, _≤_, _<_}
+use Prim.Native.Nat.{ℕ, _*_, _≤_, _<_}
 use mathlib.Core.Path.{_≡_}
 use mathlib.Core.Logic.{_⊎_}
 use mathlib.Core.Bool.{Bool, true, false, _&&_}
 use mathlib.Core.List.{List, [], _∷_}
 use lib.Dec.{eqb}
 use lib.ListN.{length, getD, take, drop}
-use Rattle.bitset.specs.Bits.{look, onesOf}
+use Rattle.bitset.specs.Bits.{look, size, onesOf}
 use Rattle.elimination.specs.Sets.{Sub, Same}
-use Rattle.elimination.specs.Elimination.{steps, Largest}
+use Rattle.elimination.specs.Elimination.{Largest}
 use Rattle.elimination.specs.Calls.{Call, strike, settle, runWith, Passes}
 use Rattle.records.specs.Places.{Placed}
 use Rattle.syntax.specs.Reading.{Kb, Reading, refusal, kb, partsOf, readKb, isReadRefusal}
 use Rattle.syntax.specs.Answers.{limit, readSays, listSays, listLeaves, isListRefusal}
 use Rattle.semantics.specs.Interpretations.{Interpretation, models}
-use Rattle.semantics.specs.Dominoes.{Met, Domino, number, leftOf, rightOf, inverse}
-use Rattle.semantics.specs.Conditions.{View, LargestStable, dominoes, initial, defective, defectAt, canonDominoes, held}
+use Rattle.semantics.specs.Dominoes.{Met, Domino, number, leftOf, rightOf, inverse, numbered}
+use Rattle.semantics.specs.Conditions.{View, stage, SameDominoes, Final, LargestStable, dominoes, initial, defective, defectAt, canonDominoes, held}
 use Rattle.semantics.specs.Views.{kbView}
 use Rattle.semantics.specs.Projection.{projection}
 use Rattle.domino.specs.Answers.{isSetRefusal, isStrikeRefusal, openSays, openLeaves, strikeSays, strikeLeaves, settleSays, settleLeaves, judgeSays, judgeLeaves}
@@ -93,10 +93,11 @@ pub record Demand2 (s : Reading) (v : View) (ws : List ℕ) : Type 0 where
   pub largest : LargestStable v (canonDominoes v)
   pub stable : StableWords v (judgeLeaves s ws)
   pub most : (vs : List ℕ) → StableWords v vs → Sub (dominoes v) (look vs) (look (judgeLeaves s ws))
-  -- "as Definition 5 .. sets it out": of its steps, what the next one does not change
-  pub definition-5 : (i : ℕ)
-      → Same (dominoes v) (steps (dominoes v) (defective v) (suc i) (initial v)) (steps (dominoes v) (defective v) i (initial v))
-      → Same (dominoes v) (look (judgeLeaves s ws)) (steps (dominoes v) (defective v) i (initial v))
+  -- "as Definition 5 .. sets it out": of its stages, the one that the next does not change; and there is one, not after more stages
+  -- than the initial set has members
+  pub definition-5 : (i : ℕ) → Final v i
+      → SameDominoes v (numbered (v .parts) (v .roles) (look (judgeLeaves s ws))) (stage v i)
+  pub definition-5-ends : (i : ℕ) × (i ≤ size (dominoes v) (initial v)) × Final v i
   -- "and says "can be met" when that set holds a pairing and "cannot be met" when it is empty"
   pub verdict : (opening survivors met : ℕ) → judgeSays s ws ≡ 0 ∷ 0 ∷ opening ∷ survivors ∷ met ∷ []
       → ((met ≡ 1) × Met (canonDominoes v)) ⊎ ((met ≡ 0) × (Met (canonDominoes v) → ⊥))
