@@ -7,9 +7,9 @@ use mathlib.Core.List.{List, [], _∷_, _++_}
 use Prim.Native.Nat.{ℕ, _*_, _≤_, _<_}
 use native.Mathlib.Omega.{arith}
 use lib.Dec.{ltb}
-use lib.ListN.{length, drop, length-append, length-drop}
-use lib.Seq.{drop-at}
-use borrow.Author.Tests.{ltb-true, ltb-false}
+use lib.ListN.{length, take, drop, length-append, length-drop}
+use lib.Seq.{take-at, drop-at}
+use borrow.Author.Tests.{le-ltb, ltb-true, ltb-false}
 use Rattle.bitset.specs.Bits.{Set, look, cleared}
 use Rattle.bitset.proofs.RunLaws.{words-room}
 use Rattle.elimination.specs.Sets.{Same}
@@ -27,7 +27,7 @@ use Rattle.semantics.specs.Conditions.{View, dominoes, initial, defective, cano
 use Rattle.semantics.specs.Views.{kbView}
 use Rattle.semantics.proofs.Defects.{defective-monotone}
 use Rattle.domino.specs.Answers.{isShort, isSetRefusal, isStrikeRefusal, saysOnSet, leavesOnSet, verdictNumbers, verdictOf, openSays, openLeaves, strikeSays, strikeLeaves, settleSays, settleLeaves, judgeSays, judgeLeaves}
-use Rattle.domino.specs.Demanded.{refusalOf, placeOf, Refuses, RefusesShort, RefusesOnSet, RefusesOnList, Demand1, Demand1Done}
+use Rattle.domino.specs.Demanded.{refusalOf, placeOf, Refuses, RefusesShort, RefusesOnSet, RefusesOnList, Demand1, Demand1Listed, Demand1Done}
 use Rattle.domino.proofs.OnSet.{says-refused, leaves-refused, says-short, leaves-short, says-enough, leaves-enough}
 use Rattle.domino.proofs.WordsEnough.{held-some, open-says, open-leaves, strike-says, strike-beyond, settle-says, settle-leaves, judge-says, judge-leaves}
 
@@ -253,6 +253,21 @@ no-words sheet k n e =
     let d = demand-1 sheet [] [] n in
     let l : 0 < held (kbView k) = held-some (kbView k) in
     (d .opening .short k e l, d .striking .short k e l, d .settling .short k e l, d .judging .short k e l)
+
+-- read and list marks do their work
+pub demand-1-listed : (sheet : List ℕ) (k : Kb) → readKb limit sheet ≡ kb k → (list : List ℕ)
+    → Demand1Listed (readKb limit sheet) k list
+unfolding readSays listSays listLeaves
+demand-1-listed sheet k e list =
+    let c : ℕ = needed k in
+    record {
+      reads = ap readSays e;
+      lists = λ h. ap (λ (s : Reading). listSays s list) e ∙ rw (le-ltb (length list) c h);
+      bytes = λ h.
+          ap (λ (s : Reading). take c (listLeaves s list)) e
+          ∙ rw (le-ltb (length list) c h) (take-at (bytesOf (partsOf k)) (drop c list) c (bytes-long (partsOf k)));
+      past = list-refuses sheet list .past k e;
+    }
 
 -- ---- enough words
 

@@ -13,7 +13,7 @@ use Rattle.elimination.specs.Elimination.{Largest}
 use Rattle.elimination.specs.Calls.{Call, strike, settle, runWith, Passes}
 use Rattle.records.specs.Places.{Placed}
 use Rattle.syntax.specs.Reading.{Kb, Reading, refusal, kb, partsOf, readKb, isReadRefusal}
-use Rattle.syntax.specs.Answers.{limit, readSays, listSays, listLeaves, isListRefusal}
+use Rattle.syntax.specs.Answers.{limit, readSays, listSays, listLeaves, bytesOf, isListRefusal}
 use Rattle.semantics.specs.Interpretations.{Interpretation, models}
 use Rattle.semantics.specs.Dominoes.{Met, Domino, number, leftOf, rightOf, inverse, numbered}
 use Rattle.semantics.specs.Conditions.{View, stage, SameDominoes, Final, LargestStable, dominoes, initial, defective, defectAt, canonDominoes, held}
@@ -66,6 +66,16 @@ pub record Demand1 (sheet list ws : List ℕ) (n : ℕ) : Type 0 where
   pub striking : RefusesOnSet isStrikeRefusal sheet ws (strikeSays (readKb limit sheet) n ws) (strikeLeaves (readKb limit sheet) n ws)
   pub settling : RefusesOnSet isSetRefusal sheet ws (settleSays (readKb limit sheet) ws) (settleLeaves (readKb limit sheet) ws)
   pub judging : RefusesOnSet isSetRefusal sheet ws (judgeSays (readKb limit sheet) ws) (judgeLeaves (readKb limit sheet) ws)
+
+-- "Where the input is sound the call does its work": read and list marks, for a sheet that is read as s, which is the knowledge
+-- base k, and any list
+pub record Demand1Listed (s : Reading) (k : Kb) (list : List ℕ) : Type 0 where
+  -- "Read answers T, L and c."
+  pub reads : readSays s ≡ 0 ∷ 0 ∷ k .names ∷ k .roles ∷ length (partsOf k) ∷ []
+  -- a list of 3c bytes is not refused: c is answered, "three bytes for each mark" are written, "Bytes past 3c are kept."
+  pub lists : 3 * length (partsOf k) ≤ length list → listSays s list ≡ 0 ∷ 0 ∷ length (partsOf k) ∷ []
+  pub bytes : 3 * length (partsOf k) ≤ length list → take (3 * length (partsOf k)) (listLeaves s list) ≡ bytesOf (partsOf k)
+  pub past : drop (3 * length (partsOf k)) (listLeaves s list) ≡ drop (3 * length (partsOf k)) list
 
 -- ---- for a sheet that is read as s, its view v, and words ws that are enough
 
