@@ -9,14 +9,14 @@ use native.Mathlib.Omega.{arith}
 use lib.Dec.{T, eqb}
 use lib.ListN.{length, getD, take}
 use borrow.Author.Tests.{eqb-true, eqb-false}
-use Rattle.bitset.specs.Bits.{Set, look, areWords, size, onesOf}
+use Rattle.bitset.specs.Bits.{Set, look, words, areWords, size, onesOf}
 use Rattle.bitset.proofs.Facts.{either, T-of, is-true, of-true}
 use Rattle.bitset.proofs.Sizes.{size-none}
 use Rattle.bitset.proofs.RunLaws.{words-room}
-use Rattle.elimination.specs.Sets.{Same}
+use Rattle.elimination.specs.Sets.{below, Same}
 use Rattle.elimination.specs.Elimination.{isStable}
 use Rattle.elimination.proofs.Settling.{stable-same, canonical-largest}
-use Rattle.elimination.proofs.Written.{written-look, written-spare, written-ones}
+use Rattle.elimination.proofs.Written.{written-front, written-look, written-spare, written-ones}
 use Rattle.syntax.specs.Reading.{Kb, kb, readKb}
 use Rattle.syntax.specs.Answers.{limit}
 use Rattle.semantics.specs.Dominoes.{Met, Domino, number, leftOf, rolesOf, rightOf, inverse, numbered, unnumbered}
@@ -28,7 +28,7 @@ use Rattle.semantics.proofs.Canonical.{dominoesOf, of-domino, of-number, of-unn
 use Rattle.semantics.proofs.Stages.{final-canon, final-reached}
 use Rattle.semantics.proofs.Verdict.{sheet-verdict, model-dominoes}
 use Rattle.domino.specs.Answers.{judgeSays, judgeLeaves}
-use Rattle.domino.specs.Demanded.{Demand2, NeverStranded, Demand2Models}
+use Rattle.domino.specs.Demanded.{Demand2, FixedBySheet, NeverStranded, Demand2Models}
 use Rattle.domino.proofs.WordsEnough.{open-leaves, judge-says, judge-leaves, stable-words, words-stable}
 
 -- ---- the canonical set on numbers and as dominoes
@@ -153,6 +153,22 @@ module _ (k : Kb) (ws : List ℕ) (h : held (kbView k) ≤ length ws) where
             let d = canon-range v B R C (w .2) in
             (number c L B R C, number-lt c L B R C d, survives B R C (w .2), left-number c L B R C d);
       }
+
+-- neither the words needed that are left nor what is said depends on the words lent
+module _ (k : Kb) where
+  front : (ws : List ℕ) → held (kbView k) ≤ length ws
+      → take (held (kbView k)) (judgeLeaves (kb k) ws) ≡ words (held (kbView k)) (below (dominoes (kbView k)) (canon (kbView k)))
+  front ws h =
+      let v : View = kbView k in
+      ap (take (held v)) (judge-leaves k ws h) ∙ written-front (held v) (dominoes v) (canon v) ws
+
+  fixed : (ws vs : List ℕ) → held (kbView k) ≤ length ws → held (kbView k) ≤ length vs → FixedBySheet (kb k) (kbView k) ws vs
+  fixed ws vs h l =
+      record { leaves = front ws h ∙ flip (front vs l); says = judge-says k ws h ∙ flip (judge-says k vs l) }
+
+pub fixed-by-sheet : (sheet : List ℕ) (k : Kb) → readKb limit sheet ≡ kb k → (ws vs : List ℕ) → held (kbView k) ≤ length ws
+    → held (kbView k) ≤ length vs → FixedBySheet (readKb limit sheet) (kbView k) ws vs
+fixed-by-sheet sheet k e ws vs h l = rw e (fixed k ws vs h l)
 
 pub demand-2 : (sheet : List ℕ) (k : Kb) → readKb limit sheet ≡ kb k → (ws : List ℕ) → T (areWords ws)
     → held (kbView k) ≤ length ws → Demand2 (readKb limit sheet) (kbView k) ws

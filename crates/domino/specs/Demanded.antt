@@ -115,6 +115,11 @@ pub record Demand2 (s : Reading) (v : View) (ws : List ℕ) : Type 0 where
   pub counts : (opening survivors met : ℕ) → judgeSays s ws ≡ 0 ∷ 0 ∷ opening ∷ survivors ∷ met ∷ []
       → (opening ≡ onesOf (take (held v) (openLeaves s ws))) × (survivors ≡ onesOf (take (held v) (judgeLeaves s ws)))
 
+-- "What judging leaves is fixed by the sheet alone": for other words vs that are enough too
+pub record FixedBySheet (s : Reading) (v : View) (ws vs : List ℕ) : Type 0 where
+  pub leaves : take (held v) (judgeLeaves s ws) ≡ take (held v) (judgeLeaves s vs)
+  pub says : judgeSays s ws ≡ judgeSays s vs
+
 -- 02, N5: no sheet leads to 01's refusal 13, "a survivor whose right mark set begins no survivor", which is withdrawn
 pub record NeverStranded (s : Reading) (v : View) (ws : List ℕ) : Type 0 where
   -- "a survivor's mirror survives too"
