@@ -9,14 +9,14 @@ use native.Mathlib.Omega.{arith}
 use lib.Dec.{T, eqb}
 use lib.ListN.{length, getD, take}
 use borrow.Author.Tests.{eqb-true, eqb-false}
-use Rattle.bitset.specs.Bits.{Set, look, words, areWords, size, onesOf}
+use Rattle.bitset.specs.Bits.{Set, look, words, areWords, size}
 use Rattle.bitset.proofs.Facts.{either, T-of, is-true, of-true}
 use Rattle.bitset.proofs.Sizes.{size-none}
 use Rattle.bitset.proofs.RunLaws.{words-room}
 use Rattle.elimination.specs.Sets.{below, Same}
 use Rattle.elimination.specs.Elimination.{isStable}
 use Rattle.elimination.proofs.Settling.{stable-same, canonical-largest}
-use Rattle.elimination.proofs.Written.{written-front, written-look, written-spare, written-ones}
+use Rattle.elimination.proofs.Written.{written-front, written-look, written-spare}
 use Rattle.syntax.specs.Reading.{Kb, kb, readKb}
 use Rattle.syntax.specs.Answers.{limit}
 use Rattle.semantics.specs.Dominoes.{Met, Domino, number, leftOf, rolesOf, rightOf, inverse, numbered, unnumbered}
@@ -27,9 +27,9 @@ use Rattle.semantics.proofs.Defects.{lacks-monotone, defective-monotone}
 use Rattle.semantics.proofs.Canonical.{dominoesOf, of-domino, of-number, of-unnumbered, canon-stable, canon-largest, canon-sym, canon-begins}
 use Rattle.semantics.proofs.Stages.{final-canon, final-reached}
 use Rattle.semantics.proofs.Verdict.{sheet-verdict, model-dominoes}
-use Rattle.domino.specs.Answers.{judgeSays, judgeLeaves}
+use Rattle.domino.specs.Answers.{openLeaves, judgeSays, judgeLeaves}
 use Rattle.domino.specs.Demanded.{Demand2, FixedBySheet, NeverStranded, Demand2Models}
-use Rattle.domino.proofs.WordsEnough.{open-leaves, judge-says, judge-leaves, stable-words, words-stable}
+use Rattle.domino.proofs.WordsEnough.{open-leaves, judge-says, judge-leaves, ones-left, stable-words, words-stable}
 
 -- ---- the canonical set on numbers and as dominoes
 
@@ -120,10 +120,8 @@ module _ (k : Kb) (ws : List ℕ) (h : held (kbView k) ≤ length ws) where
         verdict = λ o n m e. verdict-is m (eqb (size (dominoes v) (canon v)) 0) refl (values o n m e .2);
         counts = λ o n m e.
             let w = values o n m e in (
-              w .0 ∙ flip (ap (λ (l : List ℕ). onesOf (take (held v) l)) (open-leaves k ws h)
-                  ∙ written-ones (held v) (dominoes v) (initial v) ws (words-room (dominoes v)) t h),
-              w .1 ∙ flip (ap (λ (l : List ℕ). onesOf (take (held v) l)) (judge-leaves k ws h)
-                  ∙ written-ones (held v) (dominoes v) (canon v) ws (words-room (dominoes v)) t h),
+              w .0 ∙ ones-left v (initial v) ws (openLeaves (kb k) ws) (open-leaves k ws h) t h,
+              w .1 ∙ ones-left v (canon v) ws (judgeLeaves (kb k) ws) (judge-leaves k ws h) t h,
             );
       }
 

@@ -1,13 +1,14 @@
 -- Demand 3: what a single call does, and what every list of strikes and settlings from words just opened does.
-use mathlib.Core.Path.{_≡_, refl, sym as flip, ap, subst, _∙_}
+use mathlib.Core.Path.{_≡_, refl, sym as flip, ap, ap₂, subst, _∙_}
 use mathlib.Core.Bool.{Bool, true, false, not, _&&_, cond, and-true, and-false}
 use mathlib.Core.List.{List, [], _∷_}
 use Prim.Native.Nat.{ℕ, _*_, _≤_, _<_}
+use native.Mathlib.Decide.{ℕ-discrete, decLt}
 use native.Mathlib.Omega.{arith}
 use lib.Dec.{T, eqb, ltb}
 use lib.ListN.{length, getD, take, drop}
 use borrow.Author.Tests.{lt-ltb, le-ltb, ltb-true, eq-eqb, ne-eqb}
-use Rattle.bitset.specs.Bits.{Set, look, areWords, cleared, size, onesOf}
+use Rattle.bitset.specs.Bits.{Set, look, areWords, cleared, size}
 use Rattle.bitset.proofs.Facts.{T-of}
 use Rattle.bitset.proofs.Words.{look-cleared}
 use Rattle.bitset.proofs.RunLaws.{words-room}
@@ -16,15 +17,16 @@ use Rattle.elimination.specs.Elimination.{isStable, settled, Monotone, Largest}
 use Rattle.elimination.specs.Calls.{Call, strike, settle, runWith, strikeWords, actWords, after, Demand3Words}
 use Rattle.elimination.proofs.Settling.{same-sub, same-sub′, stable-same, settled-largest}
 use Rattle.elimination.proofs.CallsOnWords.{demand-3-words}
-use Rattle.elimination.proofs.Written.{written-long, written-look, written-spare, written-front, written-ones, strike-long}
+use Rattle.elimination.proofs.Written.{written-long, written-look, written-spare, written-front, strike-long}
 use Rattle.syntax.specs.Reading.{Kb, kb, readKb}
 use Rattle.syntax.specs.Answers.{limit}
 use Rattle.semantics.specs.Conditions.{View, dominoes, initial, lacks, defective, defectAt, canon, held}
 use Rattle.semantics.specs.Views.{kbView}
-use Rattle.semantics.proofs.Defects.{lacks-monotone, defective-is, defective-monotone}
-use Rattle.domino.specs.Answers.{openLeaves, settleLeaves}
-use Rattle.domino.specs.Demanded.{StableWords, called, callsLeave, Demand3, Demand3Calls}
-use Rattle.domino.proofs.WordsEnough.{open-says, open-leaves, strike-leaves, settle-says, settle-leaves, judge-leaves, stable-words, words-stable}
+use Rattle.semantics.proofs.Defects.{lacks-monotone, defective-is, defective-monotone, defect-at-same}
+use Rattle.domino.specs.declared.Verdict.{Verdict}
+use Rattle.domino.specs.Answers.{verdictNumbers, verdictOf, openLeaves, strikeSays, strikeLeaves, settleLeaves}
+use Rattle.domino.specs.Demanded.{StableWords, called, callsLeave, Demand3, Demand3Calls, SpareIgnored}
+use Rattle.domino.proofs.WordsEnough.{open-says, open-leaves, strike-says, strike-beyond, strike-leaves, settle-says, settle-leaves, judge-leaves, ones-left, stable-words, words-stable}
 
 -- ---- single calls
 
@@ -59,12 +61,27 @@ largest-same N def mono D E F e a =
       most = λ G s r p h t. same-sub′ N F E e p h (a .most G s r p h t);
     }
 
+-- what a strike leaves, number by number
+module _ (k : Kb) (ws : List ℕ) (h : held (kbView k) ≤ length ws) (n : ℕ) where
+  room : dominoes (kbView k) ≤ 64 * length ws
+  room = omega (arith, words-room (dominoes (kbView k)))
+
+  struck-at : n < dominoes (kbView k) → look (strikeLeaves (kb k) n ws) n ≡ (look ws n && eqb (defectAt (kbView k) (look ws) n) 0)
+  struck-at l =
+      ap (λ (us : List ℕ). look us n) (strike-leaves k ws h n)
+      ∙ strike-named (dominoes (kbView k)) (defective (kbView k)) n ws (eqb (defectAt (kbView k) (look ws) n) 0) l room
+      (defective-is (kbView k) (look ws) n)
+
+  others-at : (p : ℕ) → (p ≡ n → ⊥) → look (strikeLeaves (kb k) n ws) p ≡ look ws p
+  others-at p f =
+      ap (λ (us : List ℕ). look us p) (strike-leaves k ws h n)
+      ∙ strike-others (dominoes (kbView k)) (defective (kbView k)) n p ws room f
+
 single-calls : (k : Kb) (ws : List ℕ) → T (areWords ws) → held (kbView k) ≤ length ws → Demand3Calls (kb k) (kbView k) ws
 single-calls k ws t h =
     let v : View = kbView k in
     let N : ℕ = dominoes v in
     let left : Set = settled N (defective v) (look ws) in
-    let room : dominoes (kbView k) ≤ 64 * length ws = omega (arith, words-room (dominoes v)) in
     let at : (us vs : List ℕ) (n : ℕ) → us ≡ vs → look us n ≡ look vs n = λ us vs n e. ap (λ (l : List ℕ). look l n) e in
     let best : Largest N (defective v) (look ws) (look (settleLeaves (kb k) ws)) =
     largest-same N (defective v) (defective-monotone v) (look ws) left (look (settleLeaves (kb k) ws))
@@ -72,10 +89,12 @@ single-calls k ws t h =
     (settled-largest N (defective v) (defective-monotone v) (look ws)) in
     record {
       opened = λ p l. at _ _ p (open-leaves k ws h) ∙ written-look (held v) N (initial v) ws (words-room (dominoes v)) p l;
-      struck = λ n l.
-          at _ _ n (strike-leaves k ws h n)
-          ∙ strike-named N (defective v) n ws (eqb (defectAt v (look ws) n) 0) l room (defective-is v (look ws) n);
-      others = λ n p f. at _ _ p (strike-leaves k ws h n) ∙ strike-others N (defective v) n p ws room f;
+      opened-spare = λ n l u. at _ _ n (open-leaves k ws h) ∙ written-spare (held v) N (initial v) ws n l u;
+      opened-count =
+          open-says k ws h
+          ∙ ap (λ (m : ℕ). 0 ∷ 0 ∷ m ∷ []) (ones-left v (initial v) ws (openLeaves (kb k) ws) (open-leaves k ws h) t h);
+      struck = struck-at k ws h;
+      others = others-at k ws h;
       refused = λ n l.
           strike-leaves k ws h n ∙ ap (λ (b : Bool). cond (b && (look ws n && defective v (look ws) n)) (cleared ws n) ws) (le-ltb n N l);
       stable = stable-words v (settleLeaves (kb k) ws) (best .stable);
@@ -83,13 +102,46 @@ single-calls k ws t h =
       spare = λ n l u. at _ _ n (settle-leaves k ws h) ∙ written-spare (held v) N left ws n l u;
       count =
           settle-says k ws h
-          ∙ ap (λ (m : ℕ). 0 ∷ 0 ∷ m ∷ [])
-          (flip (ap (λ (l : List ℕ). onesOf (take (held v) l)) (settle-leaves k ws h) ∙ written-ones (held v) N left ws (words-room (dominoes v)) t h));
+          ∙ ap (λ (m : ℕ). 0 ∷ 0 ∷ m ∷ []) (ones-left v left ws (settleLeaves (kb k) ws) (settle-leaves k ws h) t h);
     }
 
 pub demand-3-calls : (sheet : List ℕ) (k : Kb) → readKb limit sheet ≡ kb k → (ws : List ℕ) → T (areWords ws)
     → held (kbView k) ≤ length ws → Demand3Calls (readKb limit sheet) (kbView k) ws
 demand-3-calls sheet k e ws t h = rw e (single-calls k ws t h)
+
+-- ---- words with the same dominoes in them, and perhaps other spare bits
+
+module _ (k : Kb) (ws vs : List ℕ) (h : held (kbView k) ≤ length ws) (l : held (kbView k) ≤ length vs)
+    (e : Same (dominoes (kbView k)) (look ws) (look vs)) where
+  verdict-same : (n : ℕ) → n < dominoes (kbView k) → verdictOf (kbView k) (look ws) n ≡ verdictOf (kbView k) (look vs) n
+  unfolding verdictOf
+  verdict-same n q = rw (e n q, defect-at-same (kbView k) (look ws) (look vs) e n q)
+
+  says-same : (n : ℕ) → Dec (n < dominoes (kbView k)) → strikeSays (kb k) n ws ≡ strikeSays (kb k) n vs
+  says-same n (yes q) =
+      strike-says k ws h n q ∙ ap (λ (x : Verdict). 0 ∷ 0 ∷ n ∷ verdictNumbers x) (verdict-same n q) ∙ flip (strike-says k vs l n q)
+  says-same n (no q) = strike-beyond k ws h n (omega arith) ∙ flip (strike-beyond k vs l n (omega arith))
+
+  leaves-same : (n p : ℕ) → p < dominoes (kbView k) → Dec (p ≡ n)
+      → look (strikeLeaves (kb k) n ws) p ≡ look (strikeLeaves (kb k) n vs) p
+  leaves-same n p q (yes i) =
+      let r : n < dominoes (kbView k) = omega arith in
+      let d : eqb (defectAt (kbView k) (look ws) n) 0 ≡ eqb (defectAt (kbView k) (look vs) n) 0 =
+      ap (λ (m : ℕ). eqb m 0) (defect-at-same (kbView k) (look ws) (look vs) e n r) in
+      rw i (struck-at k ws h n r ∙ ap₂ _&&_ (e n r) d ∙ flip (struck-at k vs l n r))
+  leaves-same n p q (no i) = others-at k ws h n p i ∙ e p q ∙ flip (others-at k vs l n p i)
+
+  ignored : SpareIgnored (kb k) (kbView k) ws vs
+  ignored =
+      record {
+        says = λ n. says-same n (decLt n (dominoes (kbView k)));
+        leaves = λ n p q. leaves-same n p q (ℕ-discrete p n);
+      }
+
+pub spare-ignored : (sheet : List ℕ) (k : Kb) → readKb limit sheet ≡ kb k → (ws vs : List ℕ) → held (kbView k) ≤ length ws
+    → held (kbView k) ≤ length vs → Same (dominoes (kbView k)) (look ws) (look vs)
+    → SpareIgnored (readKb limit sheet) (kbView k) ws vs
+spare-ignored sheet k e ws vs h l same = rw e (ignored k ws vs h l same)
 
 -- ---- the calls are those of elimination
 

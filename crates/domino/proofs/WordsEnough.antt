@@ -1,18 +1,20 @@
 -- What open, strike, settle and judge say and leave where the sheet is read and the words are enough, and stable sets of words.
-use mathlib.Core.Path.{_≡_, sym as flip}
+use mathlib.Core.Path.{_≡_, sym as flip, ap, _∙_}
 use mathlib.Core.Bool.{cond}
 use mathlib.Core.List.{List, [], _∷_}
 use Prim.Native.Nat.{ℕ, _+_, _*_, _≤_, _<_}
 use native.Mathlib.Omega.{arith}
 use lib.Dec.{T, eqb, T-not, eqb→eq}
-use lib.ListN.{length}
+use lib.ListN.{length, take}
 use lib.Pow.{pow-pos}
 use borrow.Author.Tests.{lt-ltb, le-ltb, eq-eqb}
-use Rattle.bitset.specs.Bits.{look, size}
+use Rattle.bitset.specs.Bits.{Set, look, areWords, size, onesOf}
 use Rattle.bitset.proofs.Facts.{either, T-of, is-true, of-true}
+use Rattle.bitset.proofs.RunLaws.{words-room}
 use Rattle.elimination.specs.Elimination.{isStable, settled}
 use Rattle.elimination.specs.Calls.{written, strikeWords, settleWords}
 use Rattle.elimination.proofs.Settling.{stable-at, stable-by}
+use Rattle.elimination.proofs.Written.{written-ones}
 use Rattle.syntax.specs.Reading.{Kb, kb}
 use Rattle.semantics.specs.Conditions.{View, dominoes, initial, defective, defectAt, canon, held}
 use Rattle.semantics.specs.Views.{kbView}
@@ -70,6 +72,12 @@ module _ (k : Kb) (ws : List ℕ) (enough : held (kbView k) ≤ length ws) where
   pub judge-leaves : judgeLeaves (kb k) ws ≡ written (held (kbView k)) (dominoes (kbView k)) (canon (kbView k)) ws
   unfolding judgeLeaves
   judge-leaves = leaves-enough _ ws k enough
+
+-- the ones in words that a set was written to are as many as it has members
+pub ones-left : (v : View) (D : Set) (ws us : List ℕ) → us ≡ written (held v) (dominoes v) D ws → T (areWords ws)
+    → held v ≤ length ws → size (dominoes v) D ≡ onesOf (take (held v) us)
+ones-left v D ws us e t h =
+    flip (ap (λ (l : List ℕ). onesOf (take (held v) l)) e ∙ written-ones (held v) (dominoes v) D ws (words-room (dominoes v)) t h)
 
 -- ---- stable sets of words
 

@@ -140,6 +140,9 @@ pub record Demand2Models (k : Kb) : Type 0 where
 pub record Demand3Calls (s : Reading) (v : View) (ws : List ℕ) : Type 0 where
   -- "An opened set holds exactly the pairings that do not break the sheet themselves."
   pub opened : Same (dominoes v) (look (openLeaves s ws)) (initial v)
+  -- "the spare bits of word 0 are cleared by open, settle and judge"; "answers its size": the ones in the words used
+  pub opened-spare : (n : ℕ) → dominoes v ≤ n → n < 64 * held v → look (openLeaves s ws) n ≡ false
+  pub opened-count : openSays s ws ≡ 0 ∷ 0 ∷ onesOf (take (held v) (openLeaves s ws)) ∷ []
   -- "A strike removes the pairing it names precisely if it is there and loose, and no other"
   pub struck : (n : ℕ) → n < dominoes v → look (strikeLeaves s n ws) n ≡ (look ws n && eqb (defectAt v (look ws) n) 0)
   pub others : (n p : ℕ) → (p ≡ n → ⊥) → look (strikeLeaves s n ws) p ≡ look ws p
@@ -149,6 +152,12 @@ pub record Demand3Calls (s : Reading) (v : View) (ws : List ℕ) : Type 0 where
   pub largest : Largest (dominoes v) (defective v) (look ws) (look (settleLeaves s ws))
   pub spare : (n : ℕ) → dominoes v ≤ n → n < 64 * held v → look (settleLeaves s ws) n ≡ false
   pub count : settleSays s ws ≡ 0 ∷ 0 ∷ onesOf (take (held v) (settleLeaves s ws)) ∷ []
+
+-- "the spare bits of word 0 .. are ignored and kept by strike": for other words vs that are enough, with the same dominoes in them
+-- (that they are kept: `Demand3Calls.others`, `refused`)
+pub record SpareIgnored (s : Reading) (v : View) (ws vs : List ℕ) : Type 0 where
+  pub says : (n : ℕ) → strikeSays s n ws ≡ strikeSays s n vs
+  pub leaves : (n : ℕ) → Same (dominoes v) (look (strikeLeaves s n ws)) (look (strikeLeaves s n vs))
 
 -- what one call does to the words: "a strike refused with 11 counts as a call"
 abbrev pub called : Reading → Call → List ℕ → List ℕ
