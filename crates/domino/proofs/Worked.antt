@@ -5,19 +5,20 @@ use mathlib.Core.List.{List, [], _∷_, _++_, map}
 use Prim.Native.Nat.{ℕ, _≤_}
 use native.Mathlib.Omega.{arith}
 use native.Mathlib.Decide.{ℕ-discrete}
-use lib.Dec.{eqb}
-use lib.ListN.{length, drop}
+use lib.Dec.{T, eqb}
+use lib.ListN.{length, take, drop, take-append-drop}
 use borrow.Author.Tests.{ltb-false}
-use Rattle.bitset.specs.Bits.{look, word, wordAt, wordsFrom, cleared, size}
+use Rattle.bitset.specs.Bits.{look, word, wordAt, wordsFrom, areWords, cleared, size}
 use Rattle.bitset.proofs.Sizes.{size-same}
 use Rattle.bitset.proofs.RunLaws.{words-room}
 use Rattle.elimination.specs.Sets.{every, some}
 use Rattle.elimination.specs.Elimination.{settled}
-use Rattle.elimination.specs.Calls.{written}
+use Rattle.elimination.specs.Calls.{written, Passes, hasPasses}
 use Rattle.elimination.specs.Tables.{settledWords}
 use Rattle.elimination.proofs.Settling.{settled-same}
 use Rattle.elimination.proofs.Tables.{settledWords-same, settledWords-is}
 use Rattle.elimination.proofs.Written.{written-long, written-look}
+use Rattle.elimination.proofs.Passes.{passes-of-test}
 use Rattle.records.specs.Shapes.{shapeOf, isLeaf, isRestriction}
 use Rattle.records.specs.Scan.{scanSheet, scan, recordFault, recordAfter, after, namesAfter, rolesAfter, bodyFault, numberFault, referenceFault, emptyFault, vacuousOf, name}
 use Rattle.syntax.specs.Concepts.{nodesOf, nodesFrom, nodeOf, axiomsOf, axiomOf}
@@ -27,12 +28,15 @@ use Rattle.syntax.specs.Truth.{eval, kbOn, roleOn}
 use Rattle.syntax.specs.Parts.{kindOf, roleHolds}
 use Rattle.syntax.specs.Reading.{Kb, Reading, refusal, kb, readKb, reading, admit}
 use Rattle.syntax.specs.Answers.{limit, readSays}
+use Rattle.syntax.specs.Examples.{s4}
 use Rattle.semantics.specs.Dominoes.{number, leftOf, rolesOf, rightOf, inverse, numbered}
 use Rattle.semantics.specs.Conditions.{View, firstFailing, kb as good, ex, uni, witness, delex, deluni, sym, condition, defect, initially, sustained, dominoes, initial, lacks, defective, defectAt, canon, held}
 use Rattle.semantics.specs.Views.{fillerIn, hasFiller, kbView}
 use Rattle.semantics.proofs.Defects.{defective-monotone}
 use Rattle.domino.specs.Answers.{isShort, onSet, saysOnSet, leavesOnSet, verdictNumbers, verdictOf, openSays, openLeaves, strikeSays, strikeLeaves, settleSays, judgeSays, judgeLeaves}
-use Rattle.domino.specs.Examples.{Row, row, answered, table, tried, strikes, needs}
+use Rattle.domino.specs.Demanded.{StableWords, callsLeave, Demand3}
+use Rattle.domino.specs.Examples.{Row, row, answered, lend, one, row4, table, tried, strikes, kb4, passes4, needs}
+use Rattle.domino.proofs.Demand3.{demand-3}
 use Rattle.domino.proofs.WordsEnough.{open-says, open-leaves, settle-says, judge-says, judge-leaves}
 
 -- ---- what computes
@@ -60,9 +64,11 @@ readRow (kb k) s r l = elim (isShort k l) [ true ↦ refusedRow 10 0 s r l | fal
 abbrev computed : Row → Row
 computed r = readRow (readKb limit (r .sheet)) (r .sheet) (readSays (readKb limit (r .sheet))) (r .lent)
 
-both-computed : (map computed table ≡ table) × (map tried strikes ≡ strikes)
+-- the tables; of S4 its row, the knowledge base, the number of dominoes and the passes
+all-computed : (map computed table ≡ table) × (map tried strikes ≡ strikes)
+    × (computed row4 ≡ row4) × (readKb limit s4 ≡ kb kb4) × (dominoes (kbView kb4) ≡ 16) × T (hasPasses 16 8 passes4)
 unfolding readSays strikeSays strikeLeaves openLeaves saysOnSet leavesOnSet onSet verdictOf verdictNumbers cleared readKb reading admit flattenBy runBy walkPendingBy walkBy meetOne placed shared findFrom alike likeExists likeForall sameRole sameFiller sameAtom yesNo ℕ-discrete atom restrictions weight weights nameParts pendings plain negated axiomNf nodesOf nodesFrom nodeOf axiomsOf axiomOf scanSheet scan recordFault recordAfter after namesAfter rolesAfter bodyFault numberFault referenceFault emptyFault vacuousOf name shapeOf isLeaf isRestriction eval kbOn roleOn kindOf roleHolds number leftOf rolesOf rightOf inverse numbered good ex uni witness delex deluni sym firstFailing condition defect initially sustained initial lacks defectAt fillerIn hasFiller word wordAt wordsFrom size every some
-both-computed = (refl, refl)
+all-computed = (refl, refl, refl, refl, refl, tt)
 
 -- ---- the definitions' answers are those
 
@@ -125,11 +131,36 @@ map-same f g e (r ∷ rs) = ap₂ (λ (x : Row) (xs : List Row). x ∷ xs) (e r)
 -- every row of the table is as the definitions have it
 pub rows-right : map answered table ≡ table
 rows-right =
-    map-same answered computed (λ r. same-row (readKb limit (r .sheet)) (r .sheet) (readSays (readKb limit (r .sheet))) (r .lent)) table ∙ both-computed .0
+    map-same answered computed (λ r. same-row (readKb limit (r .sheet)) (r .sheet) (readSays (readKb limit (r .sheet))) (r .lent)) table ∙ all-computed .0
 
 -- and every strike
 pub strikes-right : map tried strikes ≡ strikes
-strikes-right = both-computed .1
+strikes-right = all-computed .1
+
+-- ---- a list of calls on S4
+
+-- it has as many passes for S4's dominoes as S4's opening size
+pub s4-passes : Passes (dominoes (kbView kb4)) 8 passes4
+s4-passes = rw (all-computed .4) (passes-of-test 16 8 passes4 (all-computed .5))
+
+row4-right : answered row4 ≡ row4
+row4-right = same-row (readKb limit s4) s4 (readSays (readKb limit s4)) one ∙ all-computed .2
+
+s4-demand : Demand3 (readKb limit s4) (kbView kb4) passes4 one
+s4-demand = demand-3 s4 kb4 (all-computed .3) passes4 one (unfold areWords in tt) (omega (arith, all-computed .4))
+
+-- so nothing is defective after it
+pub s4-stable : StableWords (kbView kb4) (callsLeave (readKb limit s4) passes4 one)
+s4-stable = s4-demand .ends 8 8 (ap (λ (r : Row). r .opens) row4-right) (omega arith) s4-passes
+
+-- and the words are those that judge leaves: no domino, and the further word as it was
+pub s4-left : callsLeave (readKb limit s4) passes4 one ≡ lend (0 ∷ [])
+s4-left =
+    let h : ℕ = held (kbView kb4) in
+    let us : List ℕ = callsLeave (readKb limit s4) passes4 one in
+    flip (take-append-drop h us)
+    ∙ ap₂ (λ (xs ys : List ℕ). xs ++ ys) (s4-demand .exact s4-stable ∙ ap (λ (r : Row). take h (r .judged)) row4-right) (s4-demand .past)
+    ∙ rw (all-computed .4) refl
 
 -- "c + L of 3 needs 1 word, of 9 needs 4,096 .., of 12 needs 262,144"
 pub needs-right : (needs 2 1 ≡ 1) × (needs 9 0 ≡ 4096) × (needs 12 0 ≡ 262144)

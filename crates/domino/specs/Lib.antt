@@ -6,7 +6,7 @@
 -- What functions tell each other:
 --   OwnSteps  the refusal of a call on a set, and what a strike does where there is room
 -- What proofs and statements about these definitions use:
---   Examples  the worked sheets and strikes as rows of one table
+--   Examples  the worked sheets and strikes as rows of one table, and a list of calls
 pub mod Answers
 pub mod Demanded
 pub mod Reasons
