@@ -1,3 +1,3 @@
 -- What must be believed:
---   Sheet  how much the evening program reads
+--   Sheet  how much the evening program reads, and what it prints
 pub mod Sheet

@@ -1,14 +1,15 @@
--- The invariant: what was read lies within the buffer, whose length stays.
-use borrow.Rule.Slice.PartMut.{same-len-mid, mid-len}
-use Rattle.io.proofs.Counting.{counts}
-use Rattle.console.proofs.Counts.{got}
 use Prim.Native.Nat.{_-_, _≤_}
 use mathlib.Core.Path.{_≡_, refl}
 use native.Mathlib.Omega.{arith}
-use borrow.Author.Needs.{needs}
 use lib.ListN.{length}
+use borrow.Author.Needs.{needs}
+use borrow.Rule.Slice.PartMut.{same-len-mid}
+use Rattle.io.proofs.Counting.{counts}
+use Rattle.console.proofs.Reading.{ended-within, again-further}
 use Rattle.console.proofs.read_all.Statement.{statement}
 use Rattle.console.proofs.read_all.Tie as tie
+
+-- The invariant: what was read lies within the buffer, whose length stays.
 
 abbrev Inv-loop : tie.InvT-loop
 Inv-loop buffer₀ done₀ buffer done = (done ≤ length buffer) × (length buffer ≡ length buffer₀)
@@ -31,6 +32,13 @@ part-read-some-end c = search needs
 read-some-requires : tie.Need-read-some-requires Inv-loop μ-loop
 read-some-requires c κs = search needs
 
+next-read-requires : tie.Need-next-read-requires Inv-loop μ-loop
+next-read-requires c κs =
+    let at = c .before .before .before .before .before .loop in
+    let last = c .before .before .read-some .last .0 in
+    let l = same-len-mid (at .done) (length (at .buffer) - at .done) (at .buffer) last (search needs) in
+    omega arith
+
 enum-told : tie.Need-enum-told Inv-loop μ-loop
 enum-told c = search needs
 
@@ -40,8 +48,8 @@ same-length c = search needs
 returns : tie.Need-returns Inv-loop μ-loop
 returns c = search needs
 
-enum-known-some : tie.Need-enum-known-some Inv-loop μ-loop
-enum-known-some c = search needs
+enum-known-next : tie.Need-enum-known-next Inv-loop μ-loop
+enum-known-next c = search needs
 
 same-length-2 : tie.Need-same-length-2 Inv-loop μ-loop
 same-length-2 c = search needs
@@ -51,24 +59,25 @@ returns-2 c =
     let at = c .before .before .before .before .before .before .before .before .before .loop in
     let last = c .before .before .before .before .before .before .read-some .last .0 in
     let l = same-len-mid (at .done) (length (at .buffer) - at .done) (at .buffer) last (search needs) in
-    counts _ _ (omega arith)
+    counts _ _ (ended-within _ _ _ _ _ (omega arith) (c .before .before .before .next-read .ensures) (c .before .next .given .1))
 
-add-done : tie.Need-add-done Inv-loop μ-loop
-add-done c =
-    let at = c .before .before .before .before .before .before .before .before .before .loop in
-    let l = mid-len (at .done) (length (at .buffer)) (at .buffer) (omega arith) in
-    let g = got _ _ _ (c .before .before .some .given .1) (c .before .before .before .before .before .before .read-some .ensures) in
-    search needs
+enum-known-next-2 : tie.Need-enum-known-next-2 Inv-loop μ-loop
+enum-known-next-2 c = search needs
 
 loop-less : tie.Need-loop-less Inv-loop μ-loop
-loop-less c = search needs
+loop-less c =
+    let at = c .before .before .before .before .before .before .before .before .before .loop in
+    let last = c .before .before .before .before .before .before .read-some .last .0 in
+    let l = same-len-mid (at .done) (length (at .buffer) - at .done) (at .buffer) last (search needs) in
+    let f = again-further _ _ _ _ _ (omega arith) (c .before .before .before .next-read .ensures) (c .before .next2 .given .1) in
+    omega arith
 
 loop-again : tie.Need-loop-again Inv-loop μ-loop
 loop-again c =
     let at = c .before .before .before .before .before .before .before .before .before .loop in
     let last = c .before .before .before .before .before .before .read-some .last .0 in
     let l = same-len-mid (at .done) (length (at .buffer) - at .done) (at .buffer) last (search needs) in
-    let g = got _ _ _ (c .before .before .some .given .1) (c .before .before .before .before .before .before .read-some .ensures) in
+    let f = again-further _ _ _ _ _ (omega arith) (c .before .before .before .next-read .ensures) (c .before .next2 .given .1) in
     (omega arith, search needs)
 
 same-length-3 : tie.Need-same-length-3 Inv-loop μ-loop
@@ -88,13 +97,14 @@ read-all-spec =
     part-read-some-start
     part-read-some-end
     read-some-requires
+    next-read-requires
     enum-told
     same-length
     returns
-    enum-known-some
+    enum-known-next
     same-length-2
     returns-2
-    add-done
+    enum-known-next-2
     loop-less
     loop-again
     same-length-3
