@@ -43,9 +43,11 @@ onward done room (Got n) l = first (eqb n 0) refl
   where
     P : Next → Type 0
     P = Onward done room
+
     then : (b : Bool) → ltb (done + n) room ≡ b → eqb n 0 ≡ false → P (cond b (Again (done + n)) (Ended room))
     then true f z = (omega (arith, eqb-false n 0 z), ltb-true (done + n) room f)
     then false f z = omega arith
+
     first : (b : Bool) → eqb n 0 ≡ b → P (cond b (Ended done) (cond (ltb (done + n) room) (Again (done + n)) (Ended room)))
     first true z = l
     first false z = then (ltb (done + n) room) refl z

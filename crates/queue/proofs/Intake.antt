@@ -1,6 +1,6 @@
 -- Bytes read for a step, behind its kind.
 use Prim.Native.Nat.{ℕ, _+_, _-_, _≤_}
-use mathlib.Core.Path.{_≡_, sym, ap, subst, _∙_}
+use mathlib.Core.Path.{_≡_, sym, ap, _∙_}
 use mathlib.Core.List.{List}
 use native.Mathlib.Omega.{arith}
 use lib.ListN.{length, getD, take}
@@ -8,8 +8,9 @@ use lib.Seq.{getD-take}
 use borrow.Rule.Slice.PartMut.{midOf, putMid, same-len-mid, mid-len, take-put}
 use Rattle.io.specs.Counts.{Counts}
 use Rattle.io.proofs.Counting.{counts}
+use Rattle.console.specs.Input.{Within}
 use Rattle.console.specs.declared.Input.{Input}
-use Rattle.console.specs.declared.Input.the-variants.{Got}
+use Rattle.console.specs.declared.Input.the-variants.{Failed, Got}
 use Rattle.queue.specs.Queue.{kindOf}
 use Rattle.queue.specs.Steps.{wanted, ReadsStep}
 use Rattle.queue.proofs.Fitting.{wanted-some, wanted-most}
@@ -30,7 +31,7 @@ module _ (sheets n m : ℕ) (buffer last : List ℕ) (long : length buffer ≡ 7
       let w : wanted sheets (getD after 0 0) ≡ n = ap (wanted sheets) kind ∙ sym all in
       (counts (1 + m) after (omega arith), omega arith)
 
--- what was read, with its count
-pub got-step : (sheets : ℕ) (a : Input) (n : ℕ) (buffer : List ℕ) → a ≡ Got n → ReadsStep sheets a buffer
-    → Counts n buffer × (n ≤ wanted sheets (kindOf buffer))
-got-step sheets a n buffer e r = subst (λ (x : Input). ReadsStep sheets x buffer) e r
+-- what was read lies within the buffer
+pub read-within : (sheets : ℕ) (a : Input) (buffer : List ℕ) → ReadsStep sheets a buffer → Within a buffer
+read-within sheets Failed buffer r = r
+read-within sheets (Got n) buffer r = r .0

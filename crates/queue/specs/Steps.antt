@@ -2,13 +2,13 @@
 use Prim.Native.Nat.{ℕ, zero, suc, _+_, _*_, _≤_}
 use mathlib.Core.Path.{_≡_}
 use mathlib.Core.Bool.{Bool, false, _&&_, cond}
-use mathlib.Core.Logic.{_⊎_}
 use mathlib.Core.List.{List, [], _++_, map}
 use lib.Dec.{eqb, ltb}
 use lib.ListN.{length, take, drop}
 use Rattle.io.specs.Counts.{Counts}
 use Rattle.console.specs.declared.Input.{Input}
 use Rattle.console.specs.declared.Input.the-variants.{Failed, Got}
+use Rattle.console.specs.Output.{handed}
 use Rattle.report.specs.Text.{Puts}
 use Rattle.syntax.specs.Reading.{readKb}
 use Rattle.syntax.specs.Answers.{limit}
@@ -64,6 +64,24 @@ stepPrints t input = cond (takes t input) (slotLine (t .sheets) (slotSays (slotO
 unfoldable pub stepLeaves : Totals → List ℕ → List ℕ → List ℕ
 stepLeaves t input ws = cond (takes t input) (slotLeaves (slotOf input) ws) ws
 
+-- ---- a turn: a step on the bytes that were read; none where a read failed
+
+unfoldable pub turnTotals : Totals → Input → List ℕ → Totals
+turnTotals t Failed buffer = t
+turnTotals t (Got n) buffer = stepTotals t (take n buffer)
+
+unfoldable pub turnTakes : Totals → Input → List ℕ → Bool
+turnTakes t Failed buffer = false
+turnTakes t (Got n) buffer = takes t (take n buffer)
+
+unfoldable pub turnPrints : Totals → Input → List ℕ → List ℕ
+turnPrints t Failed buffer = []
+turnPrints t (Got n) buffer = stepPrints t (take n buffer)
+
+unfoldable pub turnLeaves : Totals → Input → List ℕ → List ℕ → List ℕ
+turnLeaves t Failed buffer ws = ws
+turnLeaves t (Got n) buffer ws = stepLeaves t (take n buffer) ws
+
 -- ---- all steps
 
 -- how much of the input a step reads: a kind, and the 767 bytes of a slot that may come
@@ -98,22 +116,26 @@ pub record Steps (t : Totals) (input words left before after : List ℕ) (r : St
   pub line : Puts (stepPrints t input) 0 before after (r .written)
   pub set : left ≡ stepLeaves t input words
 
--- a turn of the program, by what is in its buffers: a step on the bytes read, whose line is printed, if it can be
-pub record Took (t : Totals) (buffer words left before after : List ℕ) (r : Turned) : Type 0 where
-  pub count : ℕ
-  pub read : Counts count buffer × (count ≤ wanted (t .sheets) (kindOf buffer))
-  pub stepped : Stepped
-  pub step : Steps t (take count buffer) words left before after stepped
-  pub totals : r .totals ≡ stepped .totals
-  pub printed : Bool
-  pub going : r .going ≡ (stepped .going && printed)
+pub record Takes (t : Totals) (input : Input) (buffer words left before after : List ℕ) (r : Stepped) : Type 0 where
+  pub totals : r .totals ≡ turnTotals t input buffer
+  pub going : r .going ≡ turnTakes t input buffer
+  pub line : Puts (turnPrints t input buffer) 0 before after (r .written)
+  pub set : left ≡ turnLeaves t input buffer words
 
--- or a read failed, and it is the last
-pub record Unread (t : Totals) (words left before after : List ℕ) (r : Turned) : Type 0 where
-  pub totals : r .totals ≡ t
-  pub going : r .going ≡ false
-  pub set : left ≡ words
-  pub line : after ≡ before
+-- a turn's line is what is handed to standard output; only whether all of it is written the system decides
+pub record Turns (t : Totals) (input : Input) (buffer words left : List ℕ) (r : Turned) : Type 0 where
+  pub totals : r .totals ≡ turnTotals t input buffer
+  pub going : r .going ≡ (turnTakes t input buffer && r .printed .whole)
+  pub line : handed (r .printed) ≡ turnPrints t input buffer
+  pub set : left ≡ turnLeaves t input buffer words
 
-abbrev pub Turns : Totals → List ℕ → List ℕ → List ℕ → List ℕ → List ℕ → Turned → Type 0
-Turns t buffer words left before after r = Took t buffer words left before after r ⊎ Unread t words left before after r
+-- the last turn, from totals that are reached
+pub record Served (r : Turned) : Type 0 where
+  pub before : Totals
+  pub reached : Reached before
+  pub input : Input
+  pub buffer : List ℕ
+  pub words : List ℕ
+  pub left : List ℕ
+  pub turn : Turns before input buffer words left r
+  pub ended : r .going ≡ false

@@ -3,12 +3,15 @@
 ghost use mathlib.Core.Path.{_≡_};
 ghost use Prim.Native.Nat.{_≤_};
 ghost use lib.ListN.{length};
-ghost use Rattle.queue.specs.Steps.{Reached, ReadsStep, Turns};
+ghost use Rattle.console.specs.Input.{Within};
+ghost use Rattle.queue.specs.Steps.{Reached, ReadsStep, Takes, Turns, Served};
+use crate::steps::Stepped;
 use crate::steps::step;
 use crate::steps::wanted;
 use crate::totals::Totals;
 use crate::totals::none;
 use console::Input;
+use console::Printed;
 use console::complain;
 use console::read_all;
 
@@ -21,9 +24,11 @@ pub struct Turned {
     pub totals: Totals,
     // Is there more to come?
     pub going: bool,
+    pub printed: Printed,
 }
 
-// Reads what the next step wants behind its kind.
+// Reads what the next step wants behind its kind. The count is bounded; which bytes are read no contract can say, and process
+// tests alone hold it, here and in `read_step`.
 fn read_rest(buffer: &mut [u8], sheets: u64) -> Input
     requires { ⌜ length (now buffer) ≡ 768 ⌝ }
     ensures { λ r. ⌜ ReadsStep sheets r (now (buffer .exit)) ⌝ }
@@ -53,49 +58,62 @@ fn read_step(buffer: &mut [u8], sheets: u64) -> Input
     }
 }
 
-fn print(line: &[u8]) -> bool {
-    if io::write_all(libc::STDOUT_FILENO, line) {
-        return true;
-    }
-    complain(b"queue: standard output cannot be written\n");
-    false
-}
-
-// Reads a step's input, takes the step and prints its line.
-fn turn(t: Totals, buffer: &mut [u8], set: &mut [u64], out: &mut [u8]) -> Turned
-    requires { ⌜ Reached t × (length (now buffer) ≡ 768) × (length (now set) ≡ 4096) × (160 ≤ length (now out)) ⌝ }
-    ensures { λ r. ⌜ Turns t (now (buffer .exit)) (now (set .entry)) (now (set .exit)) (now (out .entry)) (now (out .exit)) r ⌝ }
+// Takes the step of what was read and puts its line at the front of the buffer; neither where a read failed.
+fn take_step(t: Totals, input: Input, buffer: &[u8], set: &mut [u64], out: &mut [u8]) -> Stepped
+    requires { ⌜ Reached t × Within input (now buffer) × (length (now set) ≡ 4096) × (160 ≤ length (now out)) ⌝ }
+    ensures { λ r. ⌜ Takes t input (now (buffer .entry)) (now (set .entry)) (now (set .exit)) (now (out .entry)) (now (out .exit)) r ⌝ }
 {
-    let input = read_step(buffer, t.sheets);
     match input {
-        Input::Failed => {
-            complain(b"queue: standard input cannot be read\n");
-            Turned {
-                totals: t,
-                going: false,
-            }
-        }
-        Input::Got(n) => {
-            let s = step(t, &buffer[..n], set, out);
-            let k = s.written;
-            let printed = print(&out[..k]);
-            Turned {
-                totals: s.totals,
-                going: s.going && printed,
-            }
-        }
+        Input::Failed => Stepped {
+            totals: t,
+            written: 0,
+            going: false,
+        },
+        Input::Got(n) => step(t, &buffer[..n], set, out),
     }
 }
 
-// Takes turns until there is nothing more to come.
-fn serve(buffer: &mut [u8], set: &mut [u64], out: &mut [u8])
-    requires { ⌜ (length (now buffer) ≡ 768) × (length (now set) ≡ 4096) × (160 ≤ length (now out)) ⌝ }
+// Tells what the system refused.
+fn tell(input: Input, whole: bool) {
+    if let Input::Failed = input {
+        complain(b"queue: standard input cannot be read\n");
+    }
+    if !whole {
+        complain(b"queue: standard output cannot be written\n");
+    }
+}
+
+// Takes the step of what was read and prints its line.
+fn turn(t: Totals, input: Input, buffer: &[u8], set: &mut [u64]) -> Turned
+    requires { ⌜ Reached t × Within input (now buffer) × (length (now set) ≡ 4096) ⌝ }
+    ensures { λ r. ⌜ Turns t input (now (buffer .entry)) (now (set .entry)) (now (set .exit)) r ⌝ }
+{
+    let mut out = [0u8; 160];
+    let s = take_step(t, input, buffer, set, &mut out);
+    let k = s.written;
+    let totals = s.totals;
+    let printed = console::print(out, k);
+    let whole = printed.whole;
+    tell(input, whole);
+    Turned {
+        totals: totals,
+        going: s.going && whole,
+        printed: printed,
+    }
+}
+
+// Takes turns until there is nothing more to come, and answers the last. What each read brings no contract can say: that the
+// turns read the input one piece after another is held by process tests alone.
+fn serve(buffer: &mut [u8], set: &mut [u64]) -> Turned
+    requires { ⌜ (length (now buffer) ≡ 768) × (length (now set) ≡ 4096) ⌝ }
+    ensures { λ r. ⌜ Served r ⌝ }
 {
     let mut t = none();
     loop {
-        let next = turn(t, buffer, set, out);
+        let input = read_step(buffer, t.sheets);
+        let next = turn(t, input, buffer, set);
         if !next.going {
-            return;
+            return next;
         }
         t = next.totals;
     }
@@ -104,6 +122,5 @@ fn serve(buffer: &mut [u8], set: &mut [u64], out: &mut [u8])
 fn main() {
     let mut buffer = [0u8; 768];
     let mut set = [0u64; 4096];
-    let mut out = [0u8; 160];
-    serve(&mut buffer, &mut set, &mut out);
+    serve(&mut buffer, &mut set);
 }
