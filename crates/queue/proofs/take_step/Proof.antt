@@ -1,4 +1,7 @@
 -- A step on what was read, or a read that failed.
+use mathlib.Core.Path.{sym}
+use native.Mathlib.Omega.{arith}
+use lib.Seq.{length-take-le}
 use Rattle.console.proofs.Counts.{got}
 use Rattle.queue.proofs.Stepping.{takes-failed, takes-got}
 use borrow.Author.Needs.{needs}
@@ -12,7 +15,9 @@ enum-known-input : tie.Need-enum-known-input
 enum-known-input c = search needs
 
 slice-aggregate-step : tie.Need-slice-aggregate-step
-slice-aggregate-step c = got _ _ _ (c .before .before .input .given .1) (c .before .before .before .before .before .before .before .pre .1) .1
+slice-aggregate-step c =
+    let g = got _ _ _ (c .before .before .input .given .1) (c .before .before .before .before .before .before .before .pre .1) .0 in
+    sym (length-take-le _ _ (omega (arith, g)))
 
 step-requires : tie.Need-step-requires
 step-requires c κs = search needs
