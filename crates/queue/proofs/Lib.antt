@@ -7,4 +7,5 @@ pub mod Intake
 pub mod Fronts
 pub mod Running
 pub mod Stepping
+pub mod Serving
 pub mod Worked

@@ -40,7 +40,7 @@ said-slot more input e = rw e
 
 module _ (more : ℕ) (t : Totals) (input : List ℕ) where
   -- a step reads enough
-  step-whole : stepsPrint (suc more) t input
+  pub step-whole : stepsPrint (suc more) t input
       ≡ stepPrints t input ++ cond (takes t input) (stepsPrint more (stepTotals t input) (drop (length (piece t input)) input)) []
   unfolding stepsPrint
   step-whole = rw (stepPrints-front t input, takes-front t input, stepTotals-front t input)

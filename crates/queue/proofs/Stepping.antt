@@ -28,11 +28,11 @@ pub judged-small : (slot words left : List ℕ) (a : SlotAnswer) → JudgesSlot 
 judged-small slot words left a judged = subst (λ (x : SlotAnswer). survivorsIn x ≤ 262144) (sym (judged .answer)) (slot-survivors slot)
 
 module _ (t : Totals) (input : List ℕ) where
-  takes-early : takes t input ≡ true → t .sheets < most
+  pub takes-early : takes t input ≡ true → t .sheets < most
   unfolding takes
   takes-early e = ltb-true (t .sheets) most (and-eq-true-iff (ltb (t .sheets) most) (slotFirst input) .0 e .0)
 
-  takes-adds : takes t input ≡ true → stepTotals t input ≡ added t (slotSays (slotOf input))
+  pub takes-adds : takes t input ≡ true → stepTotals t input ≡ added t (slotSays (slotOf input))
   unfolding stepTotals
   takes-adds e = rw e refl
 

@@ -1,8 +1,8 @@
 -- The program's steps: each takes the front of the input and prints a line.
 use Prim.Native.Nat.{ℕ, zero, suc, _+_, _*_, _≤_}
 use mathlib.Core.Path.{_≡_}
-use mathlib.Core.Bool.{Bool, false, _&&_, cond}
-use mathlib.Core.List.{List, [], _++_, map}
+use mathlib.Core.Bool.{Bool, true, false, _&&_, cond}
+use mathlib.Core.List.{List, [], _∷_, _++_, map}
 use lib.Dec.{eqb, ltb}
 use lib.ListN.{length, take, drop}
 use Rattle.io.specs.Counts.{Counts}
@@ -139,3 +139,26 @@ pub record Served (r : Turned) : Type 0 where
   pub left : List ℕ
   pub turn : Turns before input buffer words left r
   pub ended : r .going ≡ false
+
+-- ---- turns in a row
+
+-- a turn whose read brought the piece of the input that its step wants, and whose line was written whole
+pub record TurnOn (t : Totals) (input : List ℕ) (r : Turned) : Type 0 where
+  pub count : ℕ
+  pub buffer : List ℕ
+  pub words : List ℕ
+  pub left : List ℕ
+  pub piece : take count buffer ≡ take (wanted (t .sheets) (kindOf input)) input
+  pub turn : Turns t (Got count) buffer words left r
+  pub whole : r .printed .whole ≡ true
+
+-- such turns, each on what the one before left of the input, up to one that is the last
+unfoldable pub TurnsOn : Totals → List ℕ → List Turned → Type 0
+TurnsOn t input [] = ⊥
+TurnsOn t input (r ∷ []) = TurnOn t input r × (r .going ≡ false)
+TurnsOn t input (r ∷ s ∷ rs) = TurnOn t input r × (r .going ≡ true) × TurnsOn (r .totals) (drop 768 input) (s ∷ rs)
+
+-- what turns handed to standard output, one after another
+unfoldable pub turnsPrint : List Turned → List ℕ
+turnsPrint [] = []
+turnsPrint (r ∷ rs) = handed (r .printed) ++ turnsPrint rs

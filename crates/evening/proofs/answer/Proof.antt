@@ -1,7 +1,6 @@
 -- A case for each answer of the read.
-use mathlib.Core.Path.{refl, sym}
+use mathlib.Core.Path.{refl}
 use native.Mathlib.Omega.{arith}
-use lib.Seq.{length-take-le}
 use Rattle.console.proofs.Counts.{got}
 use Rattle.evening.specs.Sheet.{answered}
 use borrow.Author.Needs.{needs}
@@ -16,8 +15,7 @@ enum-known-input c = search needs
 
 slice-aggregate-lines : tie.Need-slice-aggregate-lines
 slice-aggregate-lines c =
-    let g = got _ _ _ (c .before .before .input .given .1) (c .before .before .before .before .before .before .pre .0) .0 in
-    sym (length-take-le _ _ (omega (arith, g)))
+    let g = got _ _ _ (c .before .before .input .given .1) (c .before .before .before .before .before .before .pre .0) in search needs
 
 lines-requires : tie.Need-lines-requires
 lines-requires c κs = search needs

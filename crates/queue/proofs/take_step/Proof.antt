@@ -1,7 +1,4 @@
 -- A step on what was read, or a read that failed.
-use mathlib.Core.Path.{sym}
-use native.Mathlib.Omega.{arith}
-use lib.Seq.{length-take-le}
 use Rattle.console.proofs.Counts.{got}
 use Rattle.queue.proofs.Stepping.{takes-failed, takes-got}
 use borrow.Author.Needs.{needs}
@@ -16,8 +13,7 @@ enum-known-input c = search needs
 
 slice-aggregate-step : tie.Need-slice-aggregate-step
 slice-aggregate-step c =
-    let g = got _ _ _ (c .before .before .input .given .1) (c .before .before .before .before .before .before .before .pre .1) .0 in
-    sym (length-take-le _ _ (omega (arith, g)))
+    let g = got _ _ _ (c .before .before .input .given .1) (c .before .before .before .before .before .before .before .pre .1) in search needs
 
 step-requires : tie.Need-step-requires
 step-requires c κs = search needs
