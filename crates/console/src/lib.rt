@@ -13,7 +13,7 @@ pub enum Input {
 }
 
 // What follows a read.
-pub enum Next {
+enum Next {
     Failed,
     // No more is read: how many bytes were.
     Ended(usize),
@@ -59,7 +59,8 @@ fn next_read(done: usize, some: Input, room: usize) -> Next
     }
 }
 
-// Reads until the buffer is full, the input ends or a read fails, whatever each read brings.
+// Reads until the buffer is full, the input ends or a read fails, whatever each read brings. That each answer comes from reads no
+// contract can say, since what they brought is in none; held by process tests alone.
 pub fn read_all(buffer: &mut [u8]) -> Input
     ensures { λ r. ⌜ Within r (now (buffer .exit)) ⌝ }
 {
@@ -76,7 +77,8 @@ pub fn read_all(buffer: &mut [u8]) -> Input
     Input::Got(done)
 }
 
-// Writes the first bytes of a text to standard output. What the system's write takes no contract can say.
+// Writes the first bytes of a text to standard output. What the system's write takes no contract can say; held by process tests
+// alone.
 pub fn print(text: [u8; 160], count: usize) -> Printed
     requires { ⌜ count ≤ 160 ⌝ }
     ensures { λ r. ⌜ handed r ≡ take count text ⌝ }
