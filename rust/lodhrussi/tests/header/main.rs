@@ -1,4 +1,6 @@
-//! The C header: a program written against it, compiled, linked and run.
+//! The C header: programs written against it, compiled, linked and run.
+
+mod helpers;
 
 use std::path::{Path, PathBuf};
 use std::process::Command;
@@ -29,20 +31,36 @@ fn at(path: &str) -> PathBuf {
         .join(path)
 }
 
-#[test]
-fn a_c_program() {
-    let program = Path::new(env!("CARGO_TARGET_TMPDIR")).join("worked");
-    let compiled = Command::new("cc")
-        .args(["-std=c99", "-pedantic", "-Wall", "-Wextra", "-Werror", "-I"])
+/// What a program of this folder writes, compiled with warnings as errors.
+fn written_by(source: &str, compiler: &str, language: &[&str]) -> String {
+    let name = format!("{source}-{compiler}");
+    let program = Path::new(env!("CARGO_TARGET_TMPDIR")).join(name);
+    let compiled = Command::new(compiler)
+        .args(language)
+        .args(["-pedantic", "-Wall", "-Wextra", "-Werror", "-I"])
         .arg(at("include"))
-        .arg(at("rust/lodhrussi/tests/header/worked.c"))
+        .arg(at("rust/lodhrussi/tests/header").join(source))
+        .args(["-x", "none"])
         .arg(env!("LODHRUSSI_LIBRARY"))
         .arg("-o")
         .arg(&program)
         .status()
-        .expect("cc can be run");
-    assert!(compiled.success());
-    let output = Command::new(&program).output().expect("worked can be run");
+        .expect("the compiler can be run");
+    assert!(compiled.success(), "{compiler} refuses {source}");
+    let output = Command::new(&program).output().expect("it can be run");
     assert!(output.status.success());
-    assert_eq!(String::from_utf8_lossy(&output.stdout), WRITTEN);
+    String::from_utf8(output.stdout).expect("text")
+}
+
+const C: &[&str] = &["-std=c99", "-x", "c"];
+const CPP: &[&str] = &["-std=c++11", "-x", "c++"];
+
+#[test]
+fn every_call_from_c() {
+    assert_eq!(written_by("worked.c", "cc", C), WRITTEN);
+}
+
+#[test]
+fn every_call_from_cpp() {
+    assert_eq!(written_by("worked.c", "c++", CPP), WRITTEN);
 }
