@@ -1,0 +1,1 @@
+//! The lines of the evening program and the queue program.

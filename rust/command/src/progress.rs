@@ -1,0 +1,1 @@
+//! How far judging is, on a terminal.

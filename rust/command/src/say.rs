@@ -1,0 +1,9 @@
+//! What is said on standard error.
+
+use std::io::{self, Write};
+
+/// Says a sentence. Where standard error cannot be written there is nobody to
+/// tell, and the exit status still tells.
+pub fn say(sentence: &str) {
+    let _ = writeln!(io::stderr(), "lodhrussi: {sentence}");
+}

@@ -1,0 +1,1 @@
+//! The tree that a record stands for, as text.
