@@ -8,6 +8,7 @@ pub mod dominoes;
 pub mod few_axioms;
 pub mod made_up;
 pub mod misreference;
+pub mod program;
 pub mod queues;
 pub mod random;
 pub mod reading;

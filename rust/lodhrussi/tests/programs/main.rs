@@ -2,6 +2,5 @@
 //! queue's against the independent reference and judging each sheet alone.
 
 mod evening;
-mod program;
 mod queue;
 mod running;

@@ -2,7 +2,7 @@
 
 use super::lines::whole;
 use super::{report, QUEUE};
-use crate::program::assert_same;
+use comparison::program::assert_same;
 use comparison::queues::{
     slot, slot_telling, slots, worked_slots, END_KIND, LONGEST, SLOT, SLOT_KIND, WORKED,
 };

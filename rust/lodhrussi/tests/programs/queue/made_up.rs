@@ -2,7 +2,7 @@
 
 use super::lines::whole;
 use super::QUEUE;
-use crate::program::assert_same;
+use comparison::program::assert_same;
 use comparison::queues::{
     any_sheet, large_sheet, slots, Tally, END_KIND, LONGEST, SLOT, SLOT_KIND,
 };

@@ -6,7 +6,7 @@ mod lines;
 mod made_up;
 mod streams;
 
-use crate::program::Program;
+use comparison::program::Program;
 use comparison::suites;
 
 const QUEUE: Program = Program("queue");

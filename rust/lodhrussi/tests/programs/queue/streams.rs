@@ -2,8 +2,8 @@
 //! output is told.
 
 use super::QUEUE;
-use crate::program::{assert_same, text};
 use crate::running::Running;
+use comparison::program::{assert_same, text};
 use comparison::queues::{slot, slots, END_KIND, SLOT, SLOT_KIND};
 use comparison::random::Random;
 use comparison::worked;

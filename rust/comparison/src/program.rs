@@ -1,4 +1,4 @@
-//! Runs a program.
+//! Runs the built programs, and any command on an input.
 
 use std::io::{ErrorKind, Write};
 use std::path::{Path, PathBuf};
@@ -44,6 +44,11 @@ impl Program {
     }
 
     /// What the program prints for an input.
+    ///
+    /// # Panics
+    ///
+    /// If it complains of anything.
+    #[must_use]
     pub fn printed(self, input: &[u8]) -> String {
         self.printed_for_chunks(input.chunks(input.len().max(1)), Duration::ZERO)
     }
@@ -55,19 +60,7 @@ impl Program {
         chunks: impl Iterator<Item = &'a [u8]> + Send,
         pause: Duration,
     ) -> String {
-        let mut child = self.command().spawn().expect("the program starts");
-        let mut stdin = child.stdin.take().expect("a piped input");
-        let output = thread::scope(|scope| {
-            scope.spawn(move || {
-                for chunk in chunks {
-                    if !write(&mut stdin, chunk) {
-                        return;
-                    }
-                    thread::sleep(pause);
-                }
-            });
-            child.wait_with_output().expect("the program's output")
-        });
+        let output = fed(&mut self.command(), chunks, pause);
         text(output)
     }
 
@@ -77,6 +70,28 @@ impl Program {
     pub fn assert_prints(self, input: &[u8], expected: &str) -> u64 {
         assert_same(&self.printed(input), expected)
     }
+}
+
+/// Runs a command on an input written in chunks, with a pause after each.
+///
+/// # Panics
+///
+/// If it does not start or takes no input.
+pub fn fed<'a>(
+    command: &mut Command,
+    mut chunks: impl Iterator<Item = &'a [u8]> + Send,
+    pause: Duration,
+) -> Output {
+    let mut child = piped(command).spawn().expect("the program starts");
+    let mut stdin = child.stdin.take().expect("a piped input");
+    thread::scope(|scope| {
+        scope.spawn(move || {
+            while let Some(chunk) = chunks.next().filter(|chunk| write(&mut stdin, chunk)) {
+                thread::sleep(pause);
+            }
+        });
+        child.wait_with_output().expect("the program's output")
+    })
 }
 
 fn piped(command: &mut Command) -> &mut Command {
