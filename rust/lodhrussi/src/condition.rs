@@ -7,6 +7,7 @@ use std::fmt;
 /// use lodhrussi::Condition;
 ///
 /// assert_eq!(Condition::Delex.number(), 4);
+/// assert_eq!(Condition::Delex.name(), "delex");
 /// assert_eq!(Condition::Delex.to_string(), "A partner for a 'some' claim is missing.");
 /// ```
 #[derive(Clone, Copy, Debug, PartialEq, Eq, Hash)]
@@ -54,6 +55,19 @@ impl Condition {
         }
     }
 
+    /// Document 01's name of it.
+    #[must_use]
+    pub fn name(self) -> &'static str {
+        match self {
+            Condition::Kb => "kb",
+            Condition::Ex => "ex",
+            Condition::Uni => "uni",
+            Condition::Delex => "delex",
+            Condition::Deluni => "deluni",
+            Condition::Sym => "sym",
+        }
+    }
+
     /// The condition that the library answers as a number.
     pub(crate) fn of(number: u64) -> Self {
         let found = Self::ALL.into_iter().find(|c| c.number() == number);
@@ -82,9 +96,11 @@ mod tests {
     use std::collections::HashSet;
 
     #[test]
-    fn each_condition_has_its_number_and_its_own_sentence() {
+    fn each_condition_has_its_number_its_name_and_its_own_sentence() {
         let numbers = Condition::ALL.map(Condition::number);
         assert_eq!(numbers, [1, 2, 3, 4, 5, 6]);
+        let names = Condition::ALL.map(Condition::name);
+        assert_eq!(names, ["kb", "ex", "uni", "delex", "deluni", "sym"]);
         assert_eq!(numbers.map(Condition::of), Condition::ALL);
         let sentences: HashSet<String> = Condition::ALL.iter().map(ToString::to_string).collect();
         assert_eq!(sentences.len(), 6);

@@ -87,7 +87,7 @@ pub static KINDS: [Kind; 14] = [
 ];
 
 /// The bytes of [`KINDS`].
-pub(crate) const KIND_BYTES: &str = "01 to 08, 10 to 14 and 20";
+pub const KIND_BYTES: &str = "01 to 08, 10 to 14 and 20";
 
 const fn kind(byte: u8, sort: Sort, words: &'static str, body: &'static [Field]) -> Kind {
     Kind {
