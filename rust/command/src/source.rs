@@ -30,11 +30,7 @@ impl Source {
             Some("-") => Self::take(&name, io::stdin().lock()),
             _ => File::open(file).and_then(|file| Self::take(&name, file)),
         };
-        read.map_err(|error| match error.kind() {
-            ErrorKind::NotFound => format!("there is no file {name}"),
-            ErrorKind::IsADirectory => format!("{name} is a folder"),
-            _ => format!("{name} cannot be read: {error}"),
-        })
+        read.map_err(|error| unreadable(&name, &error))
     }
 
     /// Reads as much of the input as decides.
@@ -53,8 +49,17 @@ impl Source {
     }
 }
 
+/// A clause about a file that cannot be read.
+pub fn unreadable(name: &str, error: &io::Error) -> String {
+    match error.kind() {
+        ErrorKind::NotFound => format!("there is no file {name}"),
+        ErrorKind::IsADirectory => format!("{name} is a folder"),
+        _ => format!("{name} cannot be read: {error}"),
+    }
+}
+
 /// A file as it is told to people.
-fn name(file: &OsStr) -> String {
+pub fn name(file: &OsStr) -> String {
     match file.to_str() {
         Some("-") => "standard input".into(),
         Some("") => "''".into(),
