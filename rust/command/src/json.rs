@@ -1,5 +1,7 @@
 //! JSON objects on a line.
 
+use std::fmt;
+
 /// An object, built field by field; displayed on one line.
 #[derive(Clone, Debug, Default)]
 pub struct Object {
@@ -46,8 +48,8 @@ impl Object {
     }
 }
 
-impl std::fmt::Display for Object {
-    fn fmt(&self, f: &mut std::fmt::Formatter<'_>) -> std::fmt::Result {
+impl fmt::Display for Object {
+    fn fmt(&self, f: &mut fmt::Formatter<'_>) -> fmt::Result {
         write!(f, "{{{}}}", self.fields.join(","))
     }
 }
@@ -72,4 +74,51 @@ fn quoted(text: &str) -> String {
     }
     quoted.push('"');
     quoted
+}
+
+#[cfg(test)]
+mod tests {
+    use super::*;
+
+    #[test]
+    fn an_object_of_every_sort_of_field() {
+        let inner = Object::default().number("n", 1);
+        let object = Object::default()
+            .text("file", "a \"b\"")
+            .number("most", u64::MAX)
+            .truth("met", true)
+            .texts("none", [""; 0])
+            .texts("texts", ["a", "b\n"])
+            .objects("objects", [Object::default(), inner]);
+        let expected = r#"{"file":"a \"b\"","most":18446744073709551615,"met":true,"#.to_string()
+            + r#""none":[],"texts":["a","b\n"],"objects":[{},{"n":1}]}"#;
+        assert_eq!(object.to_string(), expected);
+    }
+
+    #[test]
+    fn what_may_not_stand_in_quotes_is_escaped() {
+        let escapes: String = (0..0x20_u8)
+            .map(|byte| quoted(&char::from(byte).to_string()))
+            .collect();
+        let expected: String = (0..0x20_u8)
+            .map(|byte| match byte {
+                9 => r#""\t""#.into(),
+                10 => r#""\n""#.into(),
+                13 => r#""\r""#.into(),
+                _ => format!("\"\\u{byte:04x}\""),
+            })
+            .collect();
+        assert_eq!(escapes, expected);
+        assert_eq!(quoted("\\ \" \u{7f}"), r#""\\ \" \u007f""#);
+        assert_eq!(
+            quoted("coil \u{e9} \u{1f525} /"),
+            "\"coil \u{e9} \u{1f525} /\""
+        );
+    }
+
+    #[test]
+    fn keys_are_escaped_too() {
+        let object = Object::default().truth("\"", false);
+        assert_eq!(object.to_string(), r#"{"\"":false}"#);
+    }
 }

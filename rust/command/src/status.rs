@@ -10,3 +10,15 @@ pub enum Status {
     /// A file, the usage or the output.
     Trouble = 3,
 }
+
+#[cfg(test)]
+mod tests {
+    use super::Status::{Answered, Refused, Trouble, Unmet};
+
+    #[test]
+    fn statuses_are_in_the_order_of_their_numbers() {
+        let statuses = [Answered, Unmet, Refused, Trouble];
+        assert!(statuses.is_sorted());
+        assert_eq!(statuses.map(|status| status as u8), [0, 1, 2, 3]);
+    }
+}
