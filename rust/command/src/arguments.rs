@@ -98,9 +98,12 @@ fn of(
     question: fn(Given) -> Result<Question, String>,
 ) -> Result<Question, String> {
     let word = topic.word();
-    let asked = Given::parse(topic, rest).and_then(|given| match given.help {
-        true => Ok(Question::Help(topic)),
-        false => question(given),
+    let asked = Given::parse(topic, rest).and_then(|given| {
+        if given.help {
+            return Ok(Question::Help(topic));
+        }
+        given.check_standard_input()?;
+        question(given)
     });
     asked.map_err(|what| format!("{word}: {what}; lodhrussi {word} --help tells how to ask"))
 }
@@ -114,9 +117,6 @@ fn judge(given: Given) -> Result<Question, String> {
     };
     if given.operands.is_empty() {
         return Err("name a FILE or several, or - for standard input".into());
-    }
-    if given.operands.iter().filter(|file| *file == "-").count() > 1 {
-        return Err("standard input (-) can be read only once".into());
     }
     Ok(Question::Judge(Judge {
         files: given.operands.into(),
@@ -228,6 +228,15 @@ impl Given {
         Ok(())
     }
 
+    /// Standard input is named once.
+    fn check_standard_input(&self) -> Result<(), String> {
+        let named = self.operands.iter().chain(&self.names);
+        match named.filter(|file| *file == "-").count() {
+            0 | 1 => Ok(()),
+            _ => Err("standard input (-) can be read only once".into()),
+        }
+    }
+
     /// The first operand.
     fn file(&mut self) -> Result<OsString, String> {
         let file = self.operands.pop_front();
@@ -266,7 +275,7 @@ mod tests {
     }
 
     #[test]
-    fn questions() {
+    fn help_and_version() {
         let help = |topic| Ok(Question::Help(topic));
         let rows = [
             ("--help", help(Topic::Whole)),
@@ -278,33 +287,33 @@ mod tests {
             ("strike --help", help(Topic::Strike)),
             ("--version", Ok(Question::Version)),
             ("-V", Ok(Question::Version)),
-            ("judge a", Ok(judging("a", Form::Text, 0, None))),
-            ("judge a - b", Ok(judging("a - b", Form::Text, 0, None))),
-            ("judge --json a", Ok(judging("a", Form::Json, 0, None))),
-            (
-                "judge a --lines b",
-                Ok(judging("a b", Form::Lines, 0, None)),
-            ),
-            (
-                "judge --jobs 3 a b",
-                Ok(judging("a b", Form::Text, 3, None)),
-            ),
-            ("judge a --jobs=12", Ok(judging("a", Form::Text, 12, None))),
-            (
-                "judge a --names n",
-                Ok(judging("a", Form::Text, 0, Some("n"))),
-            ),
-            (
-                "judge --names=n=m a",
-                Ok(judging("a", Form::Text, 0, Some("n=m"))),
-            ),
-            (
-                "judge a -- --json --",
-                Ok(judging("a --json --", Form::Text, 0, None)),
-            ),
         ];
         for (line, expected) in rows {
             assert_eq!(asked(line), expected, "{line}");
+        }
+    }
+
+    #[test]
+    fn questions_about_files() {
+        let rows = [
+            ("judge a", judging("a", Form::Text, 0, None)),
+            ("judge a - b", judging("a - b", Form::Text, 0, None)),
+            ("judge --json a", judging("a", Form::Json, 0, None)),
+            ("judge a --lines b", judging("a b", Form::Lines, 0, None)),
+            ("judge --jobs 3 a b", judging("a b", Form::Text, 3, None)),
+            ("judge a --jobs=12", judging("a", Form::Text, 12, None)),
+            ("judge a --names n", judging("a", Form::Text, 0, Some("n"))),
+            (
+                "judge --names=n=m a",
+                judging("a", Form::Text, 0, Some("n=m")),
+            ),
+            (
+                "judge a -- --json --",
+                judging("a --json --", Form::Text, 0, None),
+            ),
+        ];
+        for (line, expected) in rows {
+            assert_eq!(asked(line), Ok(expected), "{line}");
         }
     }
 
@@ -326,72 +335,73 @@ mod tests {
         assert_eq!(asked(&line), Ok(Question::Strike(strike)));
     }
 
+    /// Asserts what is said of lines that begin so, and where help is.
+    #[track_caller]
+    fn assert_wrong(subcommand: &str, rows: &[(&str, &str)]) {
+        let (said_of, help) = match subcommand {
+            "" => (String::new(), "lodhrussi --help".into()),
+            word => (format!("{word}: "), format!("lodhrussi {word} --help")),
+        };
+        for (line, wrong) in rows {
+            let expected = format!("{said_of}{wrong}; {help} tells how to ask");
+            let line = format!("{subcommand} {line}");
+            assert_eq!(asked(&line), Err(expected), "{line}");
+        }
+    }
+
     #[test]
-    fn what_cannot_be_asked() {
+    fn no_subcommand() {
         let rows = [
             ("", "name a subcommand: judge, show or strike"),
             ("weigh f", "there is no subcommand 'weigh'"),
             ("-", "there is no subcommand '-'"),
             ("help me", "there is no subcommand 'me'"),
             ("--json judge f", "there is no option --json"),
-            (
-                "judge",
-                "judge: name a FILE or several, or - for standard input",
-            ),
-            (
-                "judge --json",
-                "judge: name a FILE or several, or - for standard input",
-            ),
-            (
-                "judge - -",
-                "judge: standard input (-) can be read only once",
-            ),
-            (
-                "judge --lines --json f",
-                "judge: --lines and --json are two forms; ask for one",
-            ),
-            ("judge -x f", "judge: there is no option -x"),
-            ("judge --json=1 f", "judge: there is no option --json=1"),
-            (
-                "judge f --jobs",
-                "judge: --jobs wants a number from 1 after it",
-            ),
-            (
-                "judge f --jobs 0",
-                "judge: --jobs wants a number from 1 after it",
-            ),
-            (
-                "judge f --jobs=+1",
-                "judge: --jobs wants a number from 1 after it",
-            ),
-            ("judge f --names", "judge: --names wants a FILE after it"),
-            ("show", "show: name a FILE, or - for standard input"),
-            ("show f g", "show: name one FILE and no more"),
-            ("show --lines f", "show: there is no option --lines"),
-            ("show --jobs 2 f", "show: there is no option --jobs"),
-            ("strike", "strike: name a FILE, or - for standard input"),
-            (
-                "strike f",
-                "strike: name the NUMBER of a pairing or several",
-            ),
-            ("strike f 1 x", "strike: 'x' is no number of a pairing"),
-            ("strike f +1", "strike: '+1' is no number of a pairing"),
-            ("strike f -1", "strike: there is no option -1"),
-            (
-                "strike f 18446744073709551616",
-                "strike: 18446744073709551616 is too large for a number of a pairing",
-            ),
         ];
-        for (line, expected) in rows {
-            let word = expected.split_once(": ").map(|(word, _)| word);
-            let topic = word.filter(|word| !word.contains(' ')).unwrap_or_default();
-            let ask = ["lodhrussi", topic, "--help"]
-                .into_iter()
-                .filter(|word| !word.is_empty());
-            let ask = ask.collect::<Vec<_>>().join(" ");
-            let expected = format!("{expected}; {ask} tells how to ask");
-            assert_eq!(asked(line), Err(expected), "{line}");
-        }
+        assert_wrong("", &rows);
+    }
+
+    #[test]
+    fn what_cannot_be_judged() {
+        let rows = [
+            ("", "name a FILE or several, or - for standard input"),
+            ("--json", "name a FILE or several, or - for standard input"),
+            ("- f -", "standard input (-) can be read only once"),
+            ("--names - -", "standard input (-) can be read only once"),
+            (
+                "--lines --json f",
+                "--lines and --json are two forms; ask for one",
+            ),
+            ("-x f", "there is no option -x"),
+            ("--json=1 f", "there is no option --json=1"),
+            ("f --jobs", "--jobs wants a number from 1 after it"),
+            ("f --jobs 0", "--jobs wants a number from 1 after it"),
+            ("f --jobs=+1", "--jobs wants a number from 1 after it"),
+            ("f --names", "--names wants a FILE after it"),
+        ];
+        assert_wrong("judge", &rows);
+    }
+
+    #[test]
+    fn what_cannot_be_shown_or_struck() {
+        let rows = [
+            ("", "name a FILE, or - for standard input"),
+            ("f g", "name one FILE and no more"),
+            ("--lines f", "there is no option --lines"),
+            ("--jobs 2 f", "there is no option --jobs"),
+            ("- --names=-", "standard input (-) can be read only once"),
+        ];
+        assert_wrong("show", &rows);
+        let too_large = "18446744073709551616 is too large for a number of a pairing";
+        let rows = [
+            ("", "name a FILE, or - for standard input"),
+            ("f", "name the NUMBER of a pairing or several"),
+            ("f 1 x", "'x' is no number of a pairing"),
+            ("f +1", "'+1' is no number of a pairing"),
+            ("f -1", "there is no option -1"),
+            ("f 18446744073709551616", too_large),
+        ];
+        assert_wrong("strike", &rows);
     }
 
     #[test]

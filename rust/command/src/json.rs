@@ -1,6 +1,6 @@
 //! JSON objects on a line.
 
-use std::fmt;
+use std::fmt::{self, Write};
 
 /// An object, built field by field; displayed on one line.
 #[derive(Clone, Debug, Default)]
@@ -68,7 +68,9 @@ fn quoted(text: &str) -> String {
             '\n' => quoted.push_str("\\n"),
             '\r' => quoted.push_str("\\r"),
             '\t' => quoted.push_str("\\t"),
-            c if c < ' ' || c == '\u{7f}' => quoted.push_str(&format!("\\u{:04x}", u32::from(c))),
+            c if c < ' ' || c == '\u{7f}' => {
+                let _ = write!(quoted, "\\u{:04x}", u32::from(c));
+            }
             c => quoted.push(c),
         }
     }

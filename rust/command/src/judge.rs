@@ -4,14 +4,15 @@
 mod programs;
 mod text;
 
-use crate::answer::{judged, status, Answer, Totals, Words};
+use crate::answer::{judged, status, Answer, Found, Totals, Words};
 use crate::arguments::{Form, Judge};
 use crate::json::Object;
 use crate::names::Names;
 use crate::picture::picture;
 use crate::pool::in_order;
 use crate::progress::Progress;
-use crate::say::say;
+use crate::say::{say, say_all};
+use crate::sheet::{about, refused};
 use crate::source::{name, Source};
 use crate::status::Status;
 use std::ffi::{OsStr, OsString};
@@ -20,21 +21,26 @@ use std::num::NonZeroUsize;
 use std::thread;
 
 pub fn run(options: &Judge, out: &mut dyn Write) -> io::Result<Status> {
-    // names that cannot be read are trouble even where no refusal needs them
-    if let Some(Err(sentence)) = options.names.as_ref().map(|_| names(options)) {
-        say(&sentence);
-        return Ok(Status::Trouble);
-    }
+    // names that cannot be read are trouble, whether a picture needs them or not
+    let names = match options.names.as_deref().map(given_names).transpose() {
+        Ok(names) => names,
+        Err(trouble) => {
+            let (status, line) = told_trouble(options.form, &trouble);
+            out.write_all(line.as_bytes())?;
+            return Ok(status);
+        }
+    };
     match (options.form, &options.files[..]) {
         (Form::Lines, files) => programs::run(files, jobs(options), out),
-        (Form::Text, [file]) => for_people(file, options, out),
+        (Form::Text, [file]) => for_people(file, names, out),
         (form, files) => each(form, files, jobs(options), out),
     }
 }
 
-/// The words for the only file, or for the first.
-fn names(options: &Judge) -> Result<Names, String> {
-    Names::for_sheet(options.names.as_deref(), &options.files[0])
+/// Says what is the trouble.
+fn trouble(sentence: &str) -> Status {
+    say(sentence);
+    Status::Trouble
 }
 
 /// The threads asked for, or one for each core.
@@ -51,24 +57,22 @@ fn progress(files: usize) -> Progress<Stderr> {
     Progress::new(stderr, seen, files)
 }
 
-/// Judges the only file, for people.
-fn for_people(file: &OsStr, options: &Judge, out: &mut dyn Write) -> io::Result<Status> {
+/// Judges the only file, for people. Names that were not given may stand beside
+/// it.
+fn for_people(file: &OsStr, names: Option<Names>, out: &mut dyn Write) -> io::Result<Status> {
     let source = match Source::read(file) {
         Ok(source) => source,
-        Err(sentence) => {
-            say(&sentence);
-            return Ok(Status::Trouble);
-        }
+        Err(sentence) => return Ok(trouble(&sentence)),
     };
-    source.notes.iter().for_each(|note| say(note));
+    say_all(&source.notes);
     let answer = judged(&source.bytes, &mut Words::default());
     let mut status = status(&answer);
     let text = match &answer {
         Ok(found) => text::whole(found),
         Err(refusal) => {
-            let names = names(options).unwrap_or_else(|sentence| {
-                say(&sentence);
-                status = Status::Trouble;
+            let names = names.map_or_else(|| Names::for_sheet(None, file), Ok);
+            let names = names.unwrap_or_else(|sentence| {
+                status = trouble(&sentence);
                 Names::default()
             });
             picture(&source.name, &source.bytes, refusal, &names)
@@ -90,11 +94,19 @@ struct Trouble {
     sentence: String,
 }
 
+impl Trouble {
+    fn with(file: &OsStr, sentence: String) -> Self {
+        let name = name(file);
+        Trouble { name, sentence }
+    }
+}
+
+fn given_names(file: &OsStr) -> Result<Names, Trouble> {
+    Names::for_sheet(Some(file), file).map_err(|sentence| Trouble::with(file, sentence))
+}
+
 fn judged_file(file: &OsString, words: &mut Words) -> Result<Judged, Trouble> {
-    let source = Source::read(file).map_err(|sentence| Trouble {
-        name: name(file),
-        sentence,
-    })?;
+    let source = Source::read(file).map_err(|sentence| Trouble::with(file, sentence))?;
     let answer = judged(&source.bytes, words);
     Ok(Judged { source, answer })
 }
@@ -123,7 +135,7 @@ fn each(form: Form, files: &[OsString], jobs: usize, out: &mut dyn Write) -> io:
 /// A file's status and line; its notes are said, and it counts.
 fn told(form: Form, judged: &Judged, totals: &mut Totals) -> (Status, String) {
     let Judged { source, answer } = judged;
-    source.notes.iter().for_each(|note| say(note));
+    say_all(&source.notes);
     totals.add(answer);
     let line = match form {
         Form::Json => object(source, answer).to_string(),
@@ -133,38 +145,27 @@ fn told(form: Form, judged: &Judged, totals: &mut Totals) -> (Status, String) {
 }
 
 /// The status and line of a file that cannot be read, which is said.
-fn told_trouble(form: Form, trouble: &Trouble) -> (Status, String) {
-    let Trouble { name, sentence } = trouble;
-    say(sentence);
-    let object = Object::default().text("file", name);
-    let object = object.text("answer", "trouble").text("sentence", sentence);
+fn told_trouble(form: Form, unread: &Trouble) -> (Status, String) {
+    let Trouble { name, sentence } = unread;
     let line = match form {
-        Form::Json => format!("{object}\n"),
+        Form::Json => format!("{}\n", about(name, "trouble").text("sentence", sentence)),
         _ => String::new(),
     };
-    (Status::Trouble, line)
+    (trouble(sentence), line)
 }
 
 /// A file's answer for programs.
 fn object(source: &Source, answer: &Answer) -> Object {
-    let object = Object::default().text("file", &source.name);
-    match answer {
-        Ok(found) => {
-            let (counts, judgement) = (found.counts, found.judgement);
-            object
-                .text("answer", if judgement.met { "met" } else { "unmet" })
-                .number("traits", counts.traits)
-                .number("links", counts.links)
-                .number("marks", counts.marks)
-                .number("opening", judgement.opening)
-                .number("survivors", judgement.survivors)
-        }
-        Err(refusal) => object
-            .text("answer", "refused")
-            .number("number", refusal.number)
-            .number("place", refusal.place)
-            .text("sentence", &refusal.explain(&source.bytes)),
-    }
+    let Found { counts, judgement } = match answer {
+        Ok(found) => found,
+        Err(refusal) => return refused(&source.name, &source.bytes, refusal),
+    };
+    about(&source.name, if judgement.met { "met" } else { "unmet" })
+        .number("traits", counts.traits)
+        .number("links", counts.links)
+        .number("marks", counts.marks)
+        .number("opening", judgement.opening)
+        .number("survivors", judgement.survivors)
 }
 
 fn totals_object(totals: &Totals) -> Object {

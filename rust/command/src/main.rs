@@ -2,6 +2,7 @@
 
 mod answer;
 mod arguments;
+mod count;
 mod help;
 mod hex;
 mod json;

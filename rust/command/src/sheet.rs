@@ -3,7 +3,7 @@
 use crate::json::Object;
 use crate::names::Names;
 use crate::picture::picture;
-use crate::say::say;
+use crate::say::{say, say_all};
 use crate::source::{self, Source};
 use crate::status::Status;
 use lodhrussi::Refusal;
@@ -28,7 +28,7 @@ impl Sheet {
     pub fn read(file: &OsStr, names: Option<&OsStr>, json: bool) -> Result<Sheet, String> {
         let source = Source::read(file)?;
         let names = Names::for_sheet(names, file)?;
-        source.notes.iter().for_each(|note| say(note));
+        say_all(&source.notes);
         Ok(Sheet {
             file: source.name,
             bytes: source.bytes,
@@ -46,10 +46,7 @@ impl Sheet {
     /// An object that tells a refusal.
     #[must_use]
     pub fn refused(&self, refusal: &Refusal) -> Object {
-        self.object("refused")
-            .number("number", refusal.number)
-            .number("place", refusal.place)
-            .text("sentence", &refusal.explain(&self.bytes))
+        refused(&self.file, &self.bytes, refusal)
     }
 
     /// A refusal for people.
@@ -59,8 +56,19 @@ impl Sheet {
     }
 }
 
-fn about(file: &str, answer: &str) -> Object {
+/// An object about a file's sheet.
+#[must_use]
+pub fn about(file: &str, answer: &str) -> Object {
     Object::default().text("file", file).text("answer", answer)
+}
+
+/// An object that tells the refusal of a file's sheet.
+#[must_use]
+pub fn refused(file: &str, sheet: &[u8], refusal: &Refusal) -> Object {
+    about(file, "refused")
+        .number("number", refusal.number)
+        .number("place", refusal.place)
+        .text("sentence", &refusal.explain(sheet))
 }
 
 /// Tells that a file cannot be had.
@@ -77,8 +85,7 @@ pub fn trouble(
     if json {
         let object = about(&source::name(file), "trouble").text("sentence", sentence);
         writeln!(out, "{object}")?;
-    } else {
-        say(sentence);
     }
+    say(sentence);
     Ok(Status::Trouble)
 }

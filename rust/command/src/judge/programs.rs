@@ -5,7 +5,7 @@ use super::progress;
 use crate::answer::{status, Answer, Totals, Words};
 use crate::lines;
 use crate::pool::in_order;
-use crate::say::say;
+use crate::say::{say, say_all};
 use crate::source::Source;
 use crate::status::Status;
 use std::ffi::OsString;
@@ -26,7 +26,7 @@ pub fn run(files: &[OsString], jobs: usize, out: &mut dyn Write) -> io::Result<S
 fn sources(files: &[OsString]) -> Option<Vec<Source>> {
     let read = files.iter().map(|file| {
         let source = Source::read(file).map_err(|sentence| say(&sentence)).ok()?;
-        source.notes.iter().for_each(|note| say(note));
+        say_all(&source.notes);
         Some(source)
     });
     // all are read, so that everything that is wrong is said

@@ -1,6 +1,7 @@
 //! Answers for people.
 
 use crate::answer::{Answer, Found, Totals};
+use crate::count::count;
 use crate::picture;
 use crate::source::Source;
 use lodhrussi::Judgement;
@@ -52,9 +53,10 @@ pub fn totals(totals: &Totals) -> String {
 }
 
 fn verdict(judgement: &Judgement) -> &'static str {
-    match judgement.met {
-        true => "can be met",
-        false => "cannot be met",
+    if judgement.met {
+        "can be met"
+    } else {
+        "cannot be met"
     }
 }
 
@@ -78,12 +80,6 @@ fn standing(opening: u64, survivors: u64) -> String {
         (_, 1) => format!("{open} 1 can stand"),
         _ => format!("{open} {survivors} can stand together"),
     }
-}
-
-/// So many things.
-fn count(number: u64, thing: &str) -> String {
-    let plural = if number == 1 { "" } else { "s" };
-    format!("{number} {thing}{plural}")
 }
 
 #[cfg(test)]
