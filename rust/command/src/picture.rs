@@ -31,21 +31,16 @@ pub fn told(refusal: &Refusal) -> String {
     }
 }
 
-/// The record at fault, if it is one of the sheet.
+/// The record at fault; none if the fault is of the whole sheet, or another
+/// sheet was refused.
 #[must_use]
 pub fn faulty_record<'a>(sheet: &'a [u8], refusal: &Refusal) -> Option<Record<'a>> {
-    let place = usize::try_from(refusal.place).ok()?;
-    match refusal.number {
-        1..=8 | 16 | 17 => {
-            records(sheet).find(|record| (record.start..end(record)).contains(&place))
-        }
-        _ => None,
+    let first = lodhrussi::read(sheet).err()?;
+    if (first.number, first.place) != (refusal.number, refusal.place) || first.number == 9 {
+        return None;
     }
-}
-
-/// The byte after a record.
-fn end(record: &Record<'_>) -> usize {
-    record.start + 1 + record.body.len()
+    let place = usize::try_from(first.place).ok()?;
+    records(sheet).find(|record| place <= record.start + record.body.len())
 }
 
 /// A record with some of its bytes underlined.
@@ -114,22 +109,18 @@ fn drawings<'a>(sheet: &'a [u8], refusal: &Refusal, names: &Names) -> Option<Vec
 }
 
 fn cut_off(record: &Record<'_>) -> String {
-    let missing = record.fields().iter().skip(record.body.len());
-    let missing: Vec<_> = missing.map(|field| wanted(*field)).collect();
-    format!(
-        "found the end of the sheet; wanted {}",
-        missing.join(" and ")
-    )
-}
-
-/// What a byte of a body is to be.
-fn wanted(field: Field) -> &'static str {
-    match field {
-        Field::Name => "the number of a trait",
-        Field::Reference(Sort::Concept) => "a class",
-        Field::Reference(Sort::Role) => "a link",
-        _ => "the number of a link",
-    }
+    use Field::{Name, Reference};
+    use Sort::{Concept, Role};
+    let wanted = match &record.fields()[record.body.len()..] {
+        [Name] => "the number of a trait",
+        [Field::Role] => "the number of a link",
+        [Reference(Concept)] => "a class",
+        [Reference(Role)] => "a link",
+        [Reference(Concept), Reference(Concept)] => "two classes",
+        [Reference(Role), Reference(Role)] => "two links",
+        _ => "a link and a class",
+    };
+    format!("found the end of the sheet; wanted {wanted}")
 }
 
 fn number_too_large(record: &Record<'_>) -> Option<String> {
@@ -146,7 +137,7 @@ fn on_empty_set(sheet: &[u8], record: &Record<'_>, names: &Names) -> Option<Stri
     let role = usize::from(*record.body.first()?);
     let role = trees(&sheet[..record.start]).get(role)?.text(names);
     Some(format!(
-        "found the link '{role}', which holds on the empty set of links; \
+        "found the link {role}, which holds on the empty set of links; \
          wanted a link that fails there"
     ))
 }

@@ -8,17 +8,18 @@ use crate::json::Object;
 use crate::parts::{parts, Part};
 use crate::picture::faulty_record;
 use crate::sheet::{trouble, Sheet};
+use crate::source::MOST;
 use crate::status::Status;
 use crate::tree::{trees, Tree};
 use lodhrussi::records::{records, Record, Sort};
 use lodhrussi::{Counts, Refusal};
 use std::fmt::Write as _;
 use std::io::{self, Write};
-use std::iter::once;
 use std::rc::Rc;
 
-/// The bytes that a sheet without faults has at most.
-const MOST_BYTES: usize = 765;
+/// The bytes that a sheet without faults has at most. Of a longer one no more is
+/// known.
+const MOST_BYTES: usize = MOST - 1;
 
 /// Shows a sheet.
 ///
@@ -67,9 +68,8 @@ struct Row<'a> {
     record: Record<'a>,
     /// None for a record at fault.
     tree: Option<Rc<Tree>>,
-    /// Whether an axiom reaches it; not asked in a sheet that has a faulty
-    /// record.
-    used: bool,
+    /// Whether an axiom reaches it; not known before a fault.
+    used: Option<bool>,
 }
 
 impl<'a> Listing<'a> {
@@ -79,12 +79,11 @@ impl<'a> Listing<'a> {
         let sound = fault.map_or(bytes.len(), |record| record.start);
         let trees = trees(&bytes[..sound]).into_iter().map(Some);
         let trees = trees.chain(fault.map(|_| None));
-        let used = used(&bytes[..sound]).into_iter().chain(once(true));
-        let rows = records(bytes).zip(trees).zip(used);
-        let rows = rows.map(|((record, tree), used)| Row {
+        let used = used(&bytes[..sound]);
+        let rows = records(bytes).zip(trees).map(|(record, tree)| Row {
             record,
             tree,
-            used: used || fault.is_some(),
+            used: fault.map_or(used.get(record.number).copied(), |_| None),
         });
         Listing {
             sheet,
@@ -118,7 +117,10 @@ impl<'a> Listing<'a> {
         }
         for row in &self.rows {
             let (Record { number, start, .. }, hex) = (row.record, row.hex());
-            let unused = if row.used { "" } else { " (unused)" };
+            let unused = match row.used {
+                Some(false) => " (unused)",
+                _ => "",
+            };
             let stands_for = row.text(self.sheet).unwrap_or("(at fault)".into());
             let kind = row.kind();
             let line = format!("{number:6}  {start:4}  {hex:8}  {kind:14}  {stands_for}{unused}\n");
@@ -127,7 +129,7 @@ impl<'a> Listing<'a> {
         text
     }
 
-    /// Bytes and records. Of a longer sheet no more is known than that.
+    /// How many bytes and records.
     fn size(&self) -> String {
         let bytes = match self.sheet.bytes.len() {
             length if length > MOST_BYTES => format!("more than {MOST_BYTES} bytes"),
@@ -187,9 +189,11 @@ impl<'a> Listing<'a> {
     /// An object with the records put in.
     fn with_records(&self, object: Object) -> Object {
         let rows = self.rows.iter().map(|row| row.object(self.sheet));
-        object
-            .number("bytes", self.sheet.bytes.len() as u64)
-            .objects("records", rows)
+        let object = match self.sheet.bytes.len() {
+            length if length > MOST_BYTES => object,
+            length => object.number("bytes", length as u64),
+        };
+        object.objects("records", rows)
     }
 }
 
@@ -223,8 +227,12 @@ impl Row<'_> {
             .number("byte", start as u64)
             .text("bytes", &self.hex())
             .text("kind", self.kind());
-        match self.text(sheet) {
-            Some(text) => object.text("text", &text).truth("used", self.used),
+        let object = match self.text(sheet) {
+            Some(text) => object.text("text", &text),
+            None => object,
+        };
+        match self.used {
+            Some(used) => object.truth("used", used),
             None => object,
         }
     }

@@ -21,20 +21,19 @@ use std::io::{self, Write};
 /// Standard output cannot be written.
 pub fn run(options: &Strike, out: &mut dyn Write) -> io::Result<Status> {
     let file = &options.file;
-    let sheet = match Sheet::read(file, options.names.as_deref(), options.json) {
-        Ok(sheet) => sheet,
-        Err(sentence) => return trouble(file, &sentence, options.json, out),
-    };
-    match Opened::of(&sheet) {
-        Ok(mut opened) => opened.strike_all(&options.numbers, out),
-        Err(refusal) => {
-            match sheet.json {
-                true => writeln!(out, "{}", sheet.refused(&refusal))?,
-                false => write!(out, "{}", sheet.picture(&refusal))?,
-            }
-            Ok(Status::Refused)
-        }
+    match Sheet::read(file, options.names.as_deref(), options.json) {
+        Ok(sheet) => strike(&sheet, &options.numbers, out),
+        Err(sentence) => trouble(file, &sentence, options.json, out),
     }
+}
+
+fn strike(sheet: &Sheet, numbers: &[u64], out: &mut dyn Write) -> io::Result<Status> {
+    match Opened::of(sheet) {
+        Ok(mut opened) => return opened.strike_all(numbers, out),
+        Err(refusal) if sheet.json => writeln!(out, "{}", sheet.refused(&refusal))?,
+        Err(refusal) => write!(out, "{}", sheet.picture(&refusal))?,
+    }
+    Ok(Status::Refused)
 }
 
 /// A sheet and its set, as the strikes so far left it.

@@ -5,7 +5,7 @@ use std::{env, fs, process};
 #[test]
 fn numbers_without_a_name() {
     let names = Names::default();
-    assert_eq!((0..12).map(|n| names.name(n)).last(), Some("t11".into()));
+    assert_eq!((names.name(0), names.name(11)), ("t0".into(), "t11".into()));
     assert_eq!(names.role(3), "k3");
     assert_eq!(names.inverse(0), "k0 reversed");
     assert_eq!(Names::parse(""), Ok(names));
@@ -145,4 +145,6 @@ fn a_file_that_holds_no_names() {
     let missing = folder.0.join("missing");
     let sentence = format!("there is no file {}", missing.display());
     assert_eq!(of(&missing), Err(sentence));
+    let sentence = "names are read from a file, not from standard input";
+    assert_eq!(of(&"-".into()), Err(sentence.into()));
 }
