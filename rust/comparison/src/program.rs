@@ -79,14 +79,17 @@ impl Program {
 /// If it does not start or takes no input.
 pub fn fed<'a>(
     command: &mut Command,
-    mut chunks: impl Iterator<Item = &'a [u8]> + Send,
+    chunks: impl Iterator<Item = &'a [u8]> + Send,
     pause: Duration,
 ) -> Output {
     let mut child = piped(command).spawn().expect("the program starts");
     let mut stdin = child.stdin.take().expect("a piped input");
     thread::scope(|scope| {
         scope.spawn(move || {
-            while let Some(chunk) = chunks.next().filter(|chunk| write(&mut stdin, chunk)) {
+            for chunk in chunks {
+                if !write(&mut stdin, chunk) {
+                    return;
+                }
                 thread::sleep(pause);
             }
         });

@@ -111,7 +111,13 @@ impl Written {
         }
     }
 
-    fn role(&self, number: usize) -> Rc<Role> {
+    /// The role of that record.
+    ///
+    /// # Panics
+    ///
+    /// If it is none.
+    #[must_use]
+    pub fn role(&self, number: usize) -> Rc<Role> {
         match &self.trees[number] {
             Tree::Role(role) => Rc::clone(role),
             _ => unreachable!("a role is named"),
