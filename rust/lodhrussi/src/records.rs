@@ -10,6 +10,7 @@
 //! ```
 
 use std::fmt;
+use std::iter::once;
 
 /// What a record is, and what a reference wants. Displayed in document 01's
 /// words.
@@ -134,6 +135,23 @@ pub struct Reference {
 }
 
 impl<'a> Record<'a> {
+    /// Its kind in document 01's words.
+    #[must_use]
+    pub fn words(&self) -> &'static str {
+        self.kind.map_or("no known kind", |kind| kind.words)
+    }
+
+    /// What it is, if its kind is known.
+    #[must_use]
+    pub fn sort(&self) -> Option<Sort> {
+        self.kind.map(|kind| kind.sort)
+    }
+
+    /// Its bytes, as far as they are there.
+    pub fn bytes(&self) -> impl Iterator<Item = u8> + 'a {
+        once(self.byte).chain(self.body.iter().copied())
+    }
+
     /// What the kind says of the body; nothing if the kind is not known.
     #[must_use]
     pub fn fields(&self) -> &'static [Field] {
@@ -163,7 +181,7 @@ impl fmt::Display for Record<'_> {
             byte,
             ..
         } = self;
-        let words = self.kind.map_or("no known kind", |kind| kind.words);
+        let words = self.words();
         write!(f, "record {number} ({byte:02X}, {words}, at byte {start})")
     }
 }
@@ -245,6 +263,22 @@ mod tests {
         assert_eq!(walked(&unknown), [(0, 0, 2, &[][..]), (1, 1, 9, &[])]);
         let last = records(&unknown).last().expect("two records");
         assert_eq!(last.to_string(), "record 1 (09, no known kind, at byte 1)");
+    }
+
+    #[test]
+    fn what_a_record_tells_of_itself() {
+        let sheet = [0x10, 0, 0x20, 1, 0x02];
+        let told = |record: Record<'_>| {
+            let bytes: Vec<_> = record.bytes().collect();
+            (record.words(), record.sort(), bytes)
+        };
+        let expected = [
+            ("link as named", Some(Sort::Role), vec![0x10, 0]),
+            ("rule", Some(Sort::Axiom), vec![0x20, 1]),
+        ];
+        assert!(records(&sheet[..4]).map(told).eq(expected));
+        let unknown = records(&[0x09, 1]).map(told).next();
+        assert_eq!(unknown, Some(("no known kind", None, vec![0x09])));
     }
 
     #[test]
