@@ -58,10 +58,8 @@ impl Names {
         Names::read(beside.as_os_str())
     }
 
+    /// The names in a file, or in standard input for `-`.
     fn read(file: &OsStr) -> Result<Names, String> {
-        if file == "-" {
-            return Err("names are read from a file, not from standard input".into());
-        }
         let name = name(file);
         let bytes = bytes(file).map_err(|error| unreadable(&name, &error))?;
         let of_file = |sentence| format!("{name}: {sentence}");
@@ -144,7 +142,10 @@ impl Names {
 /// The bytes of a file; of a long one no more than tells that it is too long.
 fn bytes(file: &OsStr) -> io::Result<Vec<u8>> {
     let mut bytes = Vec::new();
-    File::open(file)?.take(LIMIT + 1).read_to_end(&mut bytes)?;
+    match file.to_str() {
+        Some("-") => io::stdin().take(LIMIT + 1).read_to_end(&mut bytes)?,
+        _ => File::open(file)?.take(LIMIT + 1).read_to_end(&mut bytes)?,
+    };
     Ok(bytes)
 }
 

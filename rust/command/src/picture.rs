@@ -7,7 +7,7 @@ use crate::names::Names;
 use crate::tree::trees;
 use lodhrussi::records::{records, Field, Record, Reference, Sort, KIND_BYTES};
 use lodhrussi::Refusal;
-use std::iter::{once, repeat};
+use std::iter::repeat;
 use std::ops::Range;
 
 /// The refusal of a sheet: its place, its sentence and the record's bytes with
@@ -61,7 +61,7 @@ impl Drawing<'_> {
         } = self;
         let place = format!("  record {} at byte {}:  ", record.number, record.start);
         let length = 1 + record.fields().len();
-        let words = record.kind.map_or("no known kind", |kind| kind.words);
+        let words = record.words();
         format!(
             "{place}{}  {words}\n{:indent$}{:rest$}  {caption}\n",
             hex(record, length),
@@ -73,10 +73,9 @@ impl Drawing<'_> {
     }
 }
 
-/// The first bytes of a record, dots for those that are missing.
+/// The first bytes of a record in hex, dots for those that are missing.
 fn hex(record: &Record<'_>, length: usize) -> String {
-    let there = once(&record.byte).chain(record.body);
-    let shown = there.map(|byte| format!("{byte:02X}"));
+    let shown = record.bytes().map(|byte| format!("{byte:02X}"));
     let shown: Vec<_> = shown.chain(repeat("..".into())).take(length).collect();
     shown.join(" ")
 }
@@ -159,7 +158,7 @@ fn of_reference<'a>(
             ", named before".into(),
             format!("a {wants} not named before"),
         ),
-        _ => (format!(", a {}", named?.kind?.sort), format!("a {wants}")),
+        _ => (format!(", a {}", named?.sort()?), format!("a {wants}")),
     };
     let caption = format!("found record {number}{found}; wanted {wanted}");
     let mut drawings = vec![underlined(record, reference, &caption)];

@@ -145,6 +145,4 @@ fn a_file_that_holds_no_names() {
     let missing = folder.0.join("missing");
     let sentence = format!("there is no file {}", missing.display());
     assert_eq!(of(&missing), Err(sentence));
-    let sentence = "names are read from a file, not from standard input";
-    assert_eq!(of(&"-".into()), Err(sentence.into()));
 }
