@@ -13,6 +13,7 @@ pub mod queues;
 pub mod random;
 pub mod reading;
 pub mod records;
+pub mod running;
 pub mod sequences;
 pub mod sharing;
 pub mod suites;

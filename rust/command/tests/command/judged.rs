@@ -3,6 +3,7 @@
 use crate::folder::Folder;
 use crate::run::run;
 use crate::sheets::file;
+use crate::words::count;
 use comparison::program::assert_same;
 use comparison::queues::any_sheet;
 use comparison::random::Random;
@@ -19,12 +20,6 @@ fn judged(sheet: &[u8]) -> Result<Judgement, reference::Refusal> {
         roles: counts.links as usize,
     };
     reference::judge(sheet, &mut vec![0; shape.words()])
-}
-
-/// So many things.
-fn count(number: u64, thing: &str) -> String {
-    let plural = if number == 1 { "" } else { "s" };
-    format!("{number} {thing}{plural}")
 }
 
 /// What is counted over several sheets.

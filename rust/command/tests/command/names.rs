@@ -98,7 +98,7 @@ fn names_in_a_picture() {
              it must fail there. Byte 5 is 07 (some) and begins record 3: \
              its link, named at byte 6, is record 1 (12, not of a link, at byte 2).\n\
              \x20 record 3 at byte 5:  07 01 02  some\n\
-             \x20                      ^^^^^^^^  found the link '{link}', which holds on the \
+             \x20                      ^^^^^^^^  found the link {link}, which holds on the \
              empty set of links; wanted a link that fails there\n"
         )
     };

@@ -163,7 +163,7 @@ const REFUSED: &[Refused] = &[
             named at byte 6, is record 1 (12, not of a link, at byte 2).",
         drawn: &[
             "  record 3 at byte 5:  07 01 02  some",
-            "                       ^^^^^^^^  found the link 'not k0', which holds on the \
+            "                       ^^^^^^^^  found the link not k0, which holds on the \
              empty set of links; wanted a link that fails there",
         ],
     },

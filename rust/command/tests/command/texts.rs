@@ -74,51 +74,52 @@ fn letters_of_both_cases() {
 }
 
 /// Text of which some digits stand alone, or that is no hex at all.
+const WITH_FAULT: &[(&str, &str)] = &[
+    (
+        "0",
+        "line 1, column 1: the hex digit '0' stands alone, and a byte takes two",
+    ),
+    (
+        "01 1",
+        "line 1, column 4: the hex digit '1' stands alone, and a byte takes two",
+    ),
+    (
+        "01 1 0",
+        "line 1, column 4: the hex digit '1' stands alone, and a byte takes two",
+    ),
+    (
+        "011",
+        "line 1, column 3: the hex digit '1' stands alone, and a byte takes two",
+    ),
+    (
+        "01 # a\r\n\r\n\ta\r\n",
+        "line 3, column 2: the hex digit 'a' stands alone, and a byte takes two",
+    ),
+    (
+        "01 F# 10",
+        "line 1, column 4: the hex digit 'F' stands alone, and a byte takes two",
+    ),
+    (
+        "\u{FEFF}0\n0",
+        "line 1, column 1: the hex digit '0' stands alone, and a byte takes two",
+    ),
+    ("# S1\n01\n\n10 0G", "line 4, column 5: 'G' is no hex digit"),
+    ("0x01", "line 1, column 2: 'x' is no hex digit"),
+    ("01,02", "line 1, column 3: ',' is no hex digit"),
+    (
+        "every t0 is some k0 . t1",
+        "line 1, column 2: 'v' is no hex digit",
+    ),
+    (
+        "01 \u{A0}02",
+        "line 1, column 4: the byte C2 is no hex digit",
+    ),
+    ("01 // 02", "line 1, column 4: '/' is no hex digit"),
+];
+
 #[test]
 fn texts_with_a_fault() {
-    let rows = [
-        (
-            "0",
-            "line 1, column 1: the hex digit '0' stands alone, and a byte takes two",
-        ),
-        (
-            "01 1",
-            "line 1, column 4: the hex digit '1' stands alone, and a byte takes two",
-        ),
-        (
-            "01 1 0",
-            "line 1, column 4: the hex digit '1' stands alone, and a byte takes two",
-        ),
-        (
-            "011",
-            "line 1, column 3: the hex digit '1' stands alone, and a byte takes two",
-        ),
-        (
-            "01 # a\r\n\r\n\ta\r\n",
-            "line 3, column 2: the hex digit 'a' stands alone, and a byte takes two",
-        ),
-        (
-            "01 F# 10",
-            "line 1, column 4: the hex digit 'F' stands alone, and a byte takes two",
-        ),
-        (
-            "\u{FEFF}0\n0",
-            "line 1, column 1: the hex digit '0' stands alone, and a byte takes two",
-        ),
-        ("# S1\n01\n\n10 0G", "line 4, column 5: 'G' is no hex digit"),
-        ("0x01", "line 1, column 2: 'x' is no hex digit"),
-        ("01,02", "line 1, column 3: ',' is no hex digit"),
-        (
-            "every t0 is some k0 . t1",
-            "line 1, column 2: 'v' is no hex digit",
-        ),
-        (
-            "01 \u{A0}02",
-            "line 1, column 4: the byte C2 is no hex digit",
-        ),
-        ("01 // 02", "line 1, column 4: '/' is no hex digit"),
-    ];
-    for (text, fault) in rows {
+    for (text, fault) in WITH_FAULT {
         assert_no_hex(text, fault);
     }
 }

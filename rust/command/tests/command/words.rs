@@ -1,7 +1,13 @@
-//! The words for the reference's trees and parts, without names.
+//! The words for counts, and for the reference's trees and parts without names.
 
 use reference::flat::{Filler, FlatKb, Normal, Part, Restriction};
 use reference::written::{Axiom, Concept, Role};
+
+/// So many things.
+pub fn count(number: u64, thing: &str) -> String {
+    let plural = if number == 1 { "" } else { "s" };
+    format!("{number} {thing}{plural}")
+}
 
 /// A text with how tightly it holds together: 2, or 1 for an and, 0 for an or.
 struct Text(String, u8);

@@ -1,8 +1,8 @@
 //! The evening program: sheets of document 01, sheets that repeat a claim,
 //! inputs of many lengths, and an input that fails.
 
-use crate::running::Running;
 use comparison::program::{assert_same, Program};
+use comparison::running::Running;
 use comparison::suites;
 use comparison::worked::{from_hex, JUDGED, S1};
 use std::fs::File;

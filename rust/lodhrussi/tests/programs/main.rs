@@ -3,4 +3,3 @@
 
 mod evening;
 mod queue;
-mod running;

@@ -2,10 +2,10 @@
 //! output is told.
 
 use super::QUEUE;
-use crate::running::Running;
 use comparison::program::{assert_same, text};
 use comparison::queues::{slot, slots, END_KIND, SLOT, SLOT_KIND};
 use comparison::random::Random;
+use comparison::running::Running;
 use comparison::worked;
 use std::fs::{self, File};
 use std::io::{Seek, Write};

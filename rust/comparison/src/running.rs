@@ -1,6 +1,6 @@
 //! A program that runs while a test gives it input and reads its lines.
 
-use comparison::program::Program;
+use crate::program::Program;
 use std::io::{BufRead, BufReader, Read, Write};
 use std::os::fd::OwnedFd;
 use std::os::unix::net::UnixStream;
