@@ -1,11 +1,13 @@
 //! Files that cannot be read, and files that are no sheets at all.
 
 use crate::folder::Folder;
-use crate::run::{run, run_on};
+use crate::run::{lodhrussi, run, run_on, Ran};
 use comparison::random::Random;
 use comparison::worked::S1;
 use std::fs::{self, Permissions};
+use std::io::ErrorKind;
 use std::os::unix::fs::PermissionsExt;
+use std::os::unix::process::CommandExt;
 
 const OF_S1: &str = "can be met\n\
     traits 1, links 1, marks 2; opening 32, survivors 16\n\
@@ -58,17 +60,23 @@ fn a_file_in_a_file() {
     assert_unread(&folder, "s1.hex/s1.hex", sentence);
 }
 
-/// Where the test may read everything there is nothing to see.
+/// Who may read everything asks as nobody, if nobody may run the command.
 #[test]
 fn a_file_without_permission() {
+    const NOBODY: u32 = 65_534;
     let folder = Folder::with(&[("s1.hex", S1)]);
     let path = folder.path().join("s1.hex");
     fs::set_permissions(&path, Permissions::from_mode(0o000)).expect("our own file");
+    let mut command = lodhrussi();
+    command.args(["judge", "s1.hex"]).current_dir(folder.path());
     if fs::read(&path).is_ok() {
-        return;
+        command.uid(NOBODY).gid(NOBODY);
     }
-    let sentence = "s1.hex cannot be read: Permission denied (os error 13)";
-    assert_unread(&folder, "s1.hex", sentence);
+    let err = "lodhrussi: s1.hex cannot be read: Permission denied (os error 13)\n";
+    match command.output() {
+        Err(error) if error.kind() == ErrorKind::PermissionDenied => {}
+        output => Ran::of(output.expect("the command runs")).is(3, "", err),
+    }
 }
 
 #[test]

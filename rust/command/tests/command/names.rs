@@ -199,3 +199,37 @@ fn names_files_that_cannot_be_read() {
         .replace("feeds", "k0");
     run(&folder, &["show", "s6.hex"]).is(0, &expected, "");
 }
+
+/// Judging uses names for the picture of a refusal alone. A file that was asked
+/// for is read in any case; one beside a sheet where it is used.
+#[test]
+fn wrong_names_where_sheets_are_judged() {
+    let folder = Folder::with(&[
+        ("s1.hex", S1),
+        ("s1.names", "coil"),
+        ("bad.hex", "04 00"),
+        ("bad.names", "coil"),
+    ]);
+    let lines = "traits 1 links 1 marks 2\nopening 32 survivors 16\ncan be met\n";
+    run(&folder, &["judge", "--lines", "s1.hex"]).is(0, lines, "");
+    let several = "s1.hex: can be met, 16 of 32 pairings left\n".repeat(2)
+        + "2 sheets: 2 can be met, 0 cannot be met, 0 refused; 32 survivors\n";
+    run(&folder, &["judge", "s1.hex", "s1.hex"]).is(0, &several, "");
+    let picture = "bad.hex: refused 5 at byte 1\n\
+        The reference at byte 1 names no earlier record. Byte 1 is 00, the only reference of \
+        record 0 (04, not of a class, at byte 0): it names record 0, and no record comes before.\n\
+        \x20 record 0 at byte 0:  04 00  not of a class\n\
+        \x20                         ^^  only reference: found record 0; wanted an earlier class\n";
+    let err = |file: &str| format!("lodhrussi: {file}: line 1: {WANTED}\n");
+    run(&folder, &["judge", "bad.hex"]).is(3, picture, &err("bad.names"));
+    for form in ["--jobs=1", "--lines"] {
+        let arguments = ["judge", form, "--names", "s1.names", "s1.hex"];
+        run(&folder, &arguments).is(3, "", &err("s1.names"));
+    }
+    let object = format!(
+        "{{\"file\":\"s1.names\",\"answer\":\"trouble\",\
+         \"sentence\":\"s1.names: line 1: {WANTED}\"}}\n"
+    );
+    let arguments = ["judge", "--json", "--names", "s1.names", "s1.hex"];
+    run(&folder, &arguments).is(3, &object, &err("s1.names"));
+}

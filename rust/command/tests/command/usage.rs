@@ -110,6 +110,14 @@ const WRONG: &[(&[&str], &str)] = &[
         "judge: standard input (-) can be read only once",
     ),
     (
+        &["judge", "--names", "-", "-"],
+        "judge: standard input (-) can be read only once",
+    ),
+    (
+        &["show", "--names=-", "-"],
+        "show: standard input (-) can be read only once",
+    ),
+    (
         &["judge", "s1.hex", "--jobs"],
         "judge: --jobs wants a number from 1 after it",
     ),
