@@ -4,13 +4,14 @@ use crate::folder::Folder;
 use crate::run::lodhrussi;
 use comparison::running::Running;
 use comparison::worked::S1;
-use std::fs;
+use std::fs::{self, File};
+use std::io::Write;
 use std::process::{Command, Stdio};
 use std::thread;
 use std::time::Duration;
 
 /// Longer than it takes until something is to be seen of the work.
-const LONG: Duration = Duration::from_millis(1_500);
+const LONG: Duration = Duration::from_secs(2);
 
 const S1_LINE: &str = "s1.hex: can be met, 16 of 32 pairings left";
 const SLOW_LINE: &str = "slow.hex: can be met, 4 of 4 pairings left";
@@ -25,9 +26,14 @@ fn with_slow_file() -> Folder {
     folder
 }
 
-/// Gives that file its bytes, when it is read.
-fn feed(folder: &Folder) {
-    let fed = fs::write(folder.path().join("slow.hex"), "03 00");
+/// Gives that file its bytes, so long after it is first waited for.
+fn feed_after(time: Duration, folder: &Folder) {
+    // this waits for a reader
+    let slow = File::options()
+        .write(true)
+        .open(folder.path().join("slow.hex"));
+    thread::sleep(time);
+    let fed = slow.and_then(|mut slow| slow.write_all(b"03 00"));
     fed.expect("the bytes are taken");
 }
 
@@ -84,10 +90,7 @@ fn a_line_on_a_terminal() {
     let folder = with_slow_file();
     let files = ["s1.hex", "slow.hex", "s1.hex"];
     let written = thread::scope(|scope| {
-        scope.spawn(|| {
-            thread::sleep(LONG);
-            feed(&folder);
-        });
+        scope.spawn(|| feed_after(LONG, &folder));
         let lines = [S1_LINE, SLOW_LINE, S1_LINE, TOTALS];
         on_terminal(&folder, &[&["--jobs", "1"][..], &files].concat(), &lines)
     });
@@ -129,8 +132,7 @@ fn lines_come_as_they_are_judged() {
             .stderr(Stdio::piped());
         let running = Running::start(&mut command);
         assert_eq!(running.line(), S1_LINE);
-        thread::sleep(LONG);
-        feed(&folder);
+        feed_after(LONG, &folder);
         for line in [SLOW_LINE, S1_LINE, TOTALS] {
             assert_eq!(running.line(), line);
         }
