@@ -85,6 +85,7 @@ fn tell_in_order<A>(
 mod tests {
     use super::*;
     use std::io::ErrorKind;
+    use std::sync::Barrier;
 
     fn silent(all: usize) -> Progress<io::Sink> {
         Progress::new(io::sink(), false, all)
@@ -110,6 +111,23 @@ mod tests {
             let squares: Vec<u64> = items.iter().map(|item| item * item).collect();
             assert_eq!(told, squares, "{jobs} jobs");
         }
+    }
+
+    /// Each waits for the other, so neither ends unless both are worked on.
+    #[test]
+    fn two_are_worked_on_at_once() {
+        let both = Barrier::new(2);
+        let work = |&item: &u64, _: &mut ()| {
+            both.wait();
+            item
+        };
+        let mut told = Vec::new();
+        let tell = |item| {
+            told.push(item);
+            Ok(())
+        };
+        in_order(&[5, 4], 2, work, &mut silent(2), tell).expect("nothing fails");
+        assert_eq!(told, [5, 4]);
     }
 
     #[test]
