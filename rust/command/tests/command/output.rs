@@ -99,30 +99,25 @@ fn closed_descriptors() {
     }
 }
 
-/// A reader that leaves after the first line, long before the last.
+/// A reader that leaves after the first line. So much is left that a pipe does
+/// not take it.
 #[test]
 fn a_reader_that_goes_away() {
+    let object = "{\"file\":\"s1.hex\",\"answer\":\"met\",\"traits\":1,\"links\":1,\
+                  \"marks\":2,\"opening\":32,\"survivors\":16}\n";
+    let line = "s1.hex: can be met, 16 of 32 pairings left\n";
     let folder = folder();
-    for form in ["--jobs=2", "--json", "--lines"] {
-        let mut command = asked(&folder, &["judge", form]);
-        let mut child = command
+    for (form, first) in [("--jobs=2", line), ("--json", object)] {
+        let mut child = asked(&folder, &["judge", form])
             .args(["s1.hex"; 6_000])
             .stdout(Stdio::piped())
             .spawn()
             .expect("the command starts");
-        let mut first = String::new();
+        let mut read = String::new();
         let mut reader = BufReader::new(child.stdout.take().expect("a piped output"));
-        reader.read_line(&mut first).expect("a line");
+        reader.read_line(&mut read).expect("a line");
         drop(reader);
-        let expected = match form {
-            "--json" => {
-                "{\"file\":\"s1.hex\",\"answer\":\"met\",\"traits\":1,\"links\":1,\
-                 \"marks\":2,\"opening\":32,\"survivors\":16}\n"
-            }
-            "--lines" => "0 met 16\n",
-            _ => "s1.hex: can be met, 16 of 32 pairings left\n",
-        };
-        assert_eq!(first, expected);
+        assert_eq!(read, first);
         Ran::of(child.wait_with_output().expect("the command ends")).is(3, "", GONE);
     }
 }
