@@ -114,14 +114,14 @@ fn made_up_sheets_one_by_one() {
 fn made_up_queues() {
     let mut random = Random::seeded(62);
     let mut tally = Tally::default();
-    for turn in 0..times(24) {
-        let size = 2 + random.below(if turn % 4 == 0 { 1_000 } else { 300 });
+    for turn in 0..times(120) {
+        let size = 2 + random.below(if turn % 12 == 0 { 1_000 } else { 60 });
         let sheets: Vec<_> = (0..size).map(|_| any_sheet(&mut random)).collect();
         let jobs = random.pick(&["1", "2", "8"]);
         compare_several(&sheets, jobs, &mut tally, &mut random);
     }
     report("queues of made-up sheets", &tally);
-    assert!(tally.comparisons >= 5_000 && tally.queues >= 24);
+    assert!(tally.comparisons >= 7_000 && tally.queues >= 120);
     for number in (1..=10).chain([14, 16, 17]) {
         assert!(tally.refused[number] >= 10, "refusal {number} is rare");
     }
