@@ -60,6 +60,13 @@ fn a_file_in_a_file() {
     assert_unread(&folder, "s1.hex/s1.hex", sentence);
 }
 
+#[test]
+fn a_file_whose_reading_fails() {
+    let folder = Folder::with(&[("s1.hex", S1)]);
+    let sentence = "/proc/self/mem cannot be read: Input/output error (os error 5)";
+    assert_unread(&folder, "/proc/self/mem", sentence);
+}
+
 /// Who may read everything asks as nobody, if nobody may run the command.
 #[test]
 fn a_file_without_permission() {

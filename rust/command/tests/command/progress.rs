@@ -8,10 +8,13 @@ use std::fs::{self, File};
 use std::io::Write;
 use std::process::{Command, Stdio};
 use std::thread;
-use std::time::Duration;
+use std::time::{Duration, Instant};
 
 /// Longer than it takes until something is to be seen of the work.
 const LONG: Duration = Duration::from_secs(2);
+
+/// Nothing is to be seen of shorter work.
+const MOMENT: Duration = Duration::from_secs(1);
 
 const S1_LINE: &str = "s1.hex: can be met, 16 of 32 pairings left";
 const SLOW_LINE: &str = "slow.hex: can be met, 4 of 4 pairings left";
@@ -107,13 +110,19 @@ fn a_line_on_a_terminal() {
     assert!(written.ends_with('\r'), "{written:?}");
 }
 
-/// What is done within a second needs no line.
+/// What is done within a second needs no line. A run that the machine held up
+/// for longer shows nothing, and is made again.
 #[test]
 fn no_line_for_a_moment() {
     let folder = Folder::with(&[("s1.hex", S1)]);
     let totals = "2 sheets: 2 can be met, 0 cannot be met, 0 refused; 32 survivors";
-    let written = on_terminal(&folder, &["s1.hex"; 2], &[S1_LINE, S1_LINE, totals]);
-    assert_eq!(written, "");
+    let runs = (0..5).map(|_| {
+        let start = Instant::now();
+        let written = on_terminal(&folder, &["s1.hex"; 2], &[S1_LINE, S1_LINE, totals]);
+        (written, start.elapsed())
+    });
+    let quick = runs.into_iter().find(|(_, time)| *time < MOMENT);
+    assert_eq!(quick.expect("a quick run").0, "");
 }
 
 /// Each line comes as soon as it and those before it are judged: here the second
