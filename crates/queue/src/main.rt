@@ -119,6 +119,7 @@ fn serve(buffer: &mut [u8], set: &mut [u64]) -> Turned
     }
 }
 
+// `main` answers nothing: that it serves is held by process tests alone.
 fn main() {
     let mut buffer = [0u8; 768];
     let mut set = [0u64; 4096];
