@@ -24,17 +24,10 @@ NAMES = set(
     "fst snd true false some none id".split()
 )
 # Where a lemma has the spelling of a definition already, it gets _lem, and the definition the spelling.
-GIVEN = {
-    "or_r": "or_r_lem",
-    "orR": "or_r",
-    "role_holds": "role_holds_lem",
-    "roleHolds": "role_holds",
-    "row_first": "row_first_lem",
-    "rowFirst": "row_first",
-}
+GIVEN = {"orR": "or_r", "roleHolds": "role_holds", "rowFirst": "row_first"}
 USE = re.compile(r"\buse ([^\s;{]+)\.\{([^}]*)\}")
 OURS = re.compile(r"Rattle\.(?!std\b|core\b)\w+\.")
-GENERATED = {"Proof.antt", "Answers.antt", "Invariants.antt"}
+GENERATED = {"Proof.antt"}
 
 
 def texts():
@@ -96,12 +89,16 @@ def main():
     present = set()
     for path in files:
         present.update(WORD.findall(path.read_text()))
+    # a local name too, as of a let
+    names.update(w for w in present if re.fullmatch(r"[a-z]+[a-z0-9]*[A-Z]\w*", w))
     rows, taken = {}, defaultdict(list)
-    present -= set(GIVEN)
+    given = {old: new for old, new in GIVEN.items() if old in names}
+    given |= {new: new + "_lem" for new in given.values() if new in names}
+    present -= set(given)
     for name in sorted(names):
         new = spelled(name, definitions)
-        if name in GIVEN:
-            rows[name] = GIVEN[name]
+        if name in given:
+            rows[name] = given[name]
         elif new != name:
             taken[new].append(name)
     for new, olds in taken.items():

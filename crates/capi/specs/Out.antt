@@ -2,8 +2,8 @@
 -- values; a refusal has no values.
 use Rattle.std.specs.Prelude.{ℕ, ◌+◌, List, [], ◌∷◌, get_or}
 use Rattle.syntax.specs.Reading.{read_kb}
-use Rattle.syntax.specs.Answers.{limit, readSays, listSays, listLeaves}
-use Rattle.domino.specs.Answers.{openSays, openLeaves, strikeSays, strikeLeaves, settleSays, settleLeaves, judgeSays, judgeLeaves}
+use Rattle.syntax.specs.Answers.{limit, read_says, list_says, list_leaves}
+use Rattle.domino.specs.Answers.{open_says, open_leaves, strike_says, strike_leaves, settle_says, settle_leaves, judge_says, judge_leaves}
 
 -- the result: the refusal's number, 0 for done
 abbrev pub result_out : List ℕ → ℕ
@@ -22,34 +22,34 @@ value_out i says before = get_or says (2 + i) before
 
 -- what each call says of a sheet's bytes, and what it leaves of the list or the words that are lent
 abbrev pub read_said : List ℕ → List ℕ
-read_said sheet = readSays (read_kb limit sheet)
+read_said sheet = read_says (read_kb limit sheet)
 
 abbrev pub list_said : List ℕ → List ℕ → List ℕ
-list_said sheet list = listSays (read_kb limit sheet) list
+list_said sheet list = list_says (read_kb limit sheet) list
 
 abbrev pub list_left : List ℕ → List ℕ → List ℕ
-list_left sheet list = listLeaves (read_kb limit sheet) list
+list_left sheet list = list_leaves (read_kb limit sheet) list
 
 abbrev pub open_said : List ℕ → List ℕ → List ℕ
-open_said sheet words = openSays (read_kb limit sheet) words
+open_said sheet words = open_says (read_kb limit sheet) words
 
 abbrev pub open_left : List ℕ → List ℕ → List ℕ
-open_left sheet words = openLeaves (read_kb limit sheet) words
+open_left sheet words = open_leaves (read_kb limit sheet) words
 
 abbrev pub strike_said : List ℕ → ℕ → List ℕ → List ℕ
-strike_said sheet number words = strikeSays (read_kb limit sheet) number words
+strike_said sheet number words = strike_says (read_kb limit sheet) number words
 
 abbrev pub strike_left : List ℕ → ℕ → List ℕ → List ℕ
-strike_left sheet number words = strikeLeaves (read_kb limit sheet) number words
+strike_left sheet number words = strike_leaves (read_kb limit sheet) number words
 
 abbrev pub settle_said : List ℕ → List ℕ → List ℕ
-settle_said sheet words = settleSays (read_kb limit sheet) words
+settle_said sheet words = settle_says (read_kb limit sheet) words
 
 abbrev pub settle_left : List ℕ → List ℕ → List ℕ
-settle_left sheet words = settleLeaves (read_kb limit sheet) words
+settle_left sheet words = settle_leaves (read_kb limit sheet) words
 
 abbrev pub judge_said : List ℕ → List ℕ → List ℕ
-judge_said sheet words = judgeSays (read_kb limit sheet) words
+judge_said sheet words = judge_says (read_kb limit sheet) words
 
 abbrev pub judge_left : List ℕ → List ℕ → List ℕ
-judge_left sheet words = judgeLeaves (read_kb limit sheet) words
+judge_left sheet words = judge_leaves (read_kb limit sheet) words

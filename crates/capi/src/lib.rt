@@ -1,7 +1,7 @@
 // The functions for C and Rust: numbers and slices only, each a thin call. Each answers the refusal's number, 0 for done; a
 // refusal writes its place, a call that is done its values.
 ghost use Rattle.std.specs.Prelude.{◌≡◌, get_or};
-ghost use Rattle.domino.specs.Answers.{verdictNumbers};
+ghost use Rattle.domino.specs.Answers.{verdict_numbers};
 ghost use Rattle.capi.specs.Out.{result_out, place_out, value_out};
 ghost use Rattle.capi.specs.Out.{read_said, list_said, list_left, open_said, open_left, strike_said, strike_left, settle_said, settle_left, judge_said, judge_left};
 
@@ -83,8 +83,8 @@ pub extern "C" fn lodhrussi_open(
 
 // A verdict's number, 0 Absent, 1 Struck, 2 Kept; and, when struck, the condition.
 fn put_verdict(v: Verdict, verdict: &mut u64, condition: &mut u64)
-    ensures verdict_after { verdict.new ≡ get_or (verdictNumbers v) 0 verdict.old }
-    ensures condition_after { condition.new ≡ get_or (verdictNumbers v) 1 condition.old }
+    ensures verdict_after { verdict.new ≡ get_or (verdict_numbers v) 0 verdict.old }
+    ensures condition_after { condition.new ≡ get_or (verdict_numbers v) 1 condition.old }
 {
     match v {
         Verdict::Absent => {

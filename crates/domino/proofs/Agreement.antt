@@ -23,7 +23,7 @@ use Rattle.syntax.specs.Bounds.{FillerLow, PartLow}
 use Rattle.syntax.specs.Truth.{kb_on}
 use Rattle.syntax.specs.Parts.{kind_of, filler_no, filler_of, role_holds}
 use Rattle.tbox.specs.Promise.{Flattened}
-use Rattle.syntax.specs.Reading.{Kb, kb as kbR, flats_of, parts_of, read_kb}
+use Rattle.syntax.specs.Reading.{Kb, kb as kb_r, flats_of, parts_of, read_kb}
 use Rattle.syntax.specs.Answers.{limit}
 use Rattle.tbox.specs.declared.base.Base.{Base}
 use Rattle.syntax.proofs.Promised.{kb-few, kb-fillers}
@@ -35,7 +35,7 @@ use Rattle.semantics.proofs.Defects.{defect_cases, defective-is, defective_monot
 use Rattle.domino.specs.declared.Outcome.{Outcome}
 use Rattle.domino_settling.specs.declared.judging.Judgement.{Judgement}
 use Rattle.domino_conditions.specs.Tables.{filler_in_label_lem, view, Sized}
-use Rattle.domino.specs.Answers.{verdictOf}
+use Rattle.domino.specs.Answers.{verdict_of}
 use Rattle.domino.specs.OwnSteps.{StrikesSet}
 use Rattle.domino_initial.specs.Opening.{OpensSet}
 use Rattle.domino_settling.specs.Settling.{SettlesSet, JudgesSet}
@@ -172,8 +172,8 @@ module _ (v w : View) (a : Agree v w) where
     set = o.set ∙ written_same _ (dominoes v) (initial v) (initial u) ws initial_same;
   }
 
-  verdict_same : (D : Set) (n : ℕ) → n < dominoes v → verdictOf v D n ≡ verdictOf u D n
-  unfolding verdictOf
+  verdict_same : (D : Set) (n : ℕ) → n < dominoes v → verdict_of v D n ≡ verdict_of u D n
+  unfolding verdict_of
   verdict_same D n h = rw (defect_same D n h)
 
   strike_same : (n : ℕ) (ws : List ℕ) → strike_words (dominoes v) (defective v) n ws ≡ strike_words (dominoes v) (defective u) n ws
@@ -227,7 +227,7 @@ part_has c h (fresh_p g d) l k B = absurd (omega arith)
 part_has c h (exists_p g u f) l k B = filler-has c h f l B
 part_has c h (forall_p g u f) l k B = filler-has c h f l B
 
-module _ (sheet : List ℕ) {k : Kb} (e : read_kb limit sheet ≡ kbR k) (b : Base) (f : Flattened k b) where
+module _ (sheet : List ℕ) {k : Kb} (e : read_kb limit sheet ≡ kb_r k) (b : Base) (f : Flattened k b) where
   pub base_sized : Sized b.parts
   base_sized = record { within = f.small; few = omega (arith, f.roles, kb-few limit sheet e) }
 

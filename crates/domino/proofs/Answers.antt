@@ -24,7 +24,7 @@ use Rattle.domino.specs.declared.StrikeAnswer.TheVariants.{Refused as NotStruck,
 use Rattle.domino.specs.declared.SettleAnswer.TheVariants.{Refused as NotSettled, Settled}
 use Rattle.domino.specs.declared.JudgeAnswer.TheVariants.{Refused as NotJudged, Judged}
 use Rattle.domino_conditions.specs.Tables.{view, Enough}
-use Rattle.domino.specs.Answers.{onSet, saysOnSet, leavesOnSet, openNumbers, openSays, openLeaves, Opens, settleNumbers, settleSays, settleLeaves, Settles, verdictNumbers, strikeNumbers, strikeSays, strikeLeaves, Strikes, judgeNumbers, judgeSays, judgeLeaves, Judges}
+use Rattle.domino.specs.Answers.{on_set, says_on_set, leaves_on_set, open_numbers, open_says, open_leaves, Opens, settle_numbers, settle_says, settle_leaves, Settles, verdict_numbers, strike_numbers, strike_says, strike_leaves, Strikes, judge_numbers, judge_says, judge_leaves, Judges}
 use Rattle.domino.specs.OwnSteps.{fault_on_set_lem, StrikesSet}
 use Rattle.domino_initial.specs.Opening.{OpensSet}
 use Rattle.domino_settling.specs.Settling.{SettlesSet, JudgesSet}
@@ -40,7 +40,7 @@ turned false = refl
 
 -- what every call on so many words refuses with, or fault 0 and the knowledge base, for which the words are enough
 pub record LoadsFor (sheet : List ℕ) (words : ℕ) (r : Loaded) : Type 0 where
-  pub refused : (r.fault ≡ 0 → ⊥) → onSet refusal kb (read_kb limit sheet) words ≡ refusal r.fault r.place
+  pub refused : (r.fault ≡ 0 → ⊥) → on_set refusal kb (read_kb limit sheet) words ≡ refusal r.fault r.place
   pub read : r.fault ≡ 0 → (k : Kb) × (read_kb limit sheet ≡ kb k) × (held (kb_view k) ≤ words) × Flattened k r.base
 
 module _ (sheet : List ℕ) (r : Loaded) (l : Loads sheet r) (words : ℕ) where
@@ -48,11 +48,11 @@ module _ (sheet : List ℕ) (r : Loaded) (l : Loads sheet r) (words : ℕ) where
   abbrev with : ℕ → Loaded
   with x = record { fault = x; place = r.place; base = r.base }
 
-  refused-for : (r.fault ≡ 0 → ⊥) → (x : ℕ) → x ≡ r.fault → LoadsFor sheet words (with x)
-  refused-for f x e =
+  refused_for : (r.fault ≡ 0 → ⊥) → (x : ℕ) → x ≡ r.fault → LoadsFor sheet words (with x)
+  refused_for f x e =
       record {
         refused = λ g.
-            ap (λ (s : Reading). onSet refusal kb s words) (l.refused f)
+            ap (λ (s : Reading). on_set refusal kb s words) (l.refused f)
             ∙ on_refused refusal kb words r.fault r.place
             ∙ ap (λ (n : ℕ). refusal n r.place) (flip e);
         read = λ z. absurd (f (flip e ∙ z));
@@ -62,74 +62,74 @@ module _ (sheet : List ℕ) (r : Loaded) (l : Loads sheet r) (words : ℕ) where
     needed : words_for_lem (total r.base.parts.count r.base.parts.roles) ≡ held (kb_view (l.read z).0)
     needed = ap words_for_lem (ap₂ total (l.read z).2.count (l.read z).2.roles)
 
-    short-for : words < held (kb_view (l.read z).0) → (x : ℕ) → x ≡ 10 → LoadsFor sheet words (with x)
-    short-for h x e =
+    short_for : words < held (kb_view (l.read z).0) → (x : ℕ) → x ≡ 10 → LoadsFor sheet words (with x)
+    short_for h x e =
         record {
           refused = λ g.
-              ap (λ (s : Reading). onSet refusal kb s words) (l.read z).1
+              ap (λ (s : Reading). on_set refusal kb s words) (l.read z).1
               ∙ on_short refusal kb words (l.read z).0 h
               ∙ ap₂ refusal (flip e) (flip (l.place z));
           read = λ y. absurd (omega arith);
         }
 
-    enough-for : held (kb_view (l.read z).0) ≤ words → (x : ℕ) → x ≡ 0 → LoadsFor sheet words (with x)
-    enough-for h x e =
+    enough_for : held (kb_view (l.read z).0) ≤ words → (x : ℕ) → x ≡ 0 → LoadsFor sheet words (with x)
+    enough_for h x e =
         record {
           refused = λ f. absurd (f e);
           read = λ y. ((l.read z).0, (l.read z).1, h, (l.read z).2);
         }
 
-  pub loads-for : (x : ℕ) → x ≡ fault_on_set_lem r.fault r.base.parts.count r.base.parts.roles words → LoadsFor sheet words (with x)
-  loads-for x e = go (ℕ_discrete r.fault 0)
+  pub loads_for : (x : ℕ) → x ≡ fault_on_set_lem r.fault r.base.parts.count r.base.parts.roles words → LoadsFor sheet words (with x)
+  loads_for x e = go (ℕ_discrete r.fault 0)
     where
       sized : (z : r.fault ≡ 0) → Dec (words < held (kb_view (l.read z).0)) → LoadsFor sheet words (with x)
-      sized z (yes h) = short-for z h x (rw (z, needed z, lt-ltb words _ h) at e)
-      sized z (no h) = enough-for z (omega (arith, h)) x (rw (z, needed z, le-ltb words (held (kb_view (l.read z).0)) (omega (arith, h))) at e)
+      sized z (yes h) = short_for z h x (rw (z, needed z, lt-ltb words _ h) at e)
+      sized z (no h) = enough_for z (omega (arith, h)) x (rw (z, needed z, le-ltb words (held (kb_view (l.read z).0)) (omega (arith, h))) at e)
 
       go : Dec (r.fault ≡ 0) → LoadsFor sheet words (with x)
-      go (no f) = refused-for f x (rw (ne_eqb r.fault 0 f) at e)
+      go (no f) = refused_for f x (rw (ne_eqb r.fault 0 f) at e)
       go (yes z) = sized z (dec_lt words (held (kb_view (l.read z).0)))
 
 -- what the tables of a sheet that is read are good for
 module _ (sheet : List ℕ) (r : Loaded) (words : ℕ) (l : LoadsFor sheet words r) (z : r.fault ≡ 0) where
-  pub load-small : r.base.parts.count + r.base.parts.roles ≤ 12
-  load-small = (l.read z).3.small
+  pub load_small : r.base.parts.count + r.base.parts.roles ≤ 12
+  load_small = (l.read z).3.small
 
-  total-same : total r.base.parts.count r.base.parts.roles ≡ dominoes (kb_view (l.read z).0)
-  total-same = ap₂ total (l.read z).3.count (l.read z).3.roles
+  total_same : total r.base.parts.count r.base.parts.roles ≡ dominoes (kb_view (l.read z).0)
+  total_same = ap₂ total (l.read z).3.count (l.read z).3.roles
 
-  pub load-room : Enough r.base.parts words
-  load-room =
+  pub load_room : Enough r.base.parts words
+  load_room =
       record {
         sized = base_sized sheet (l.read z).1 r.base (l.read z).3;
-        room = subst (λ (x : ℕ). words_for_lem x ≤ words) (flip total-same) (l.read z).2;
+        room = subst (λ (x : ℕ). words_for_lem x ≤ words) (flip total_same) (l.read z).2;
       }
 
 module _ (sheet : List ℕ) (r : Loaded) (ws : List ℕ) (l : LoadsFor sheet (length ws) r) where
   -- ---- what is refused
 
   module _ (f : r.fault ≡ 0 → ⊥) where
-    refused_says : (own : Kb → List ℕ → List ℕ) → r.fault ∷ r.place ∷ [] ≡ saysOnSet own (read_kb limit sheet) ws
+    refused_says : (own : Kb → List ℕ → List ℕ) → r.fault ∷ r.place ∷ [] ≡ says_on_set own (read_kb limit sheet) ws
     refused_says own = flip (says-refusal own ws (read_kb limit sheet) r.fault r.place (l.refused f))
 
-    refused-leaves : (own : Kb → List ℕ → List ℕ) → ws ≡ leavesOnSet own (read_kb limit sheet) ws
+    refused-leaves : (own : Kb → List ℕ → List ℕ) → ws ≡ leaves_on_set own (read_kb limit sheet) ws
     refused-leaves own = flip (leaves-refusal own ws (read_kb limit sheet) r.fault r.place (l.refused f))
 
-    pub open-refused : Opens (read_kb limit sheet) ws ws (Refused r.fault r.place)
-    unfolding openNumbers openSays openLeaves
-    open-refused = record { answer = refused_says _; set = refused-leaves _ }
+    pub open_refused : Opens (read_kb limit sheet) ws ws (Refused r.fault r.place)
+    unfolding open_numbers open_says open_leaves
+    open_refused = record { answer = refused_says _; set = refused-leaves _ }
 
     pub strike-refused : (i : ℕ) → Strikes (read_kb limit sheet) i ws ws (NotStruck r.fault r.place)
-    unfolding strikeNumbers strikeSays strikeLeaves
+    unfolding strike_numbers strike_says strike_leaves
     strike-refused i = record { answer = refused_says _; set = refused-leaves _ }
 
     pub settle-refused : Settles (read_kb limit sheet) ws ws (NotSettled r.fault r.place)
-    unfolding settleNumbers settleSays settleLeaves
+    unfolding settle_numbers settle_says settle_leaves
     settle-refused = record { answer = refused_says _; set = refused-leaves _ }
 
-    pub judge-refused : Judges (read_kb limit sheet) ws ws (NotJudged r.fault r.place)
-    unfolding judgeNumbers judgeSays judgeLeaves
-    judge-refused = record { answer = refused_says _; set = refused-leaves _ }
+    pub judge_refused : Judges (read_kb limit sheet) ws ws (NotJudged r.fault r.place)
+    unfolding judge_numbers judge_says judge_leaves
+    judge_refused = record { answer = refused_says _; set = refused-leaves _ }
 
   -- ---- a sheet that is read, and words enough
 
@@ -138,55 +138,55 @@ module _ (sheet : List ℕ) (r : Loaded) (ws : List ℕ) (l : LoadsFor sheet (le
     abbrev k : Kb
     k = (l.read z).0
 
-    says-own : (own : Kb → List ℕ → List ℕ) → saysOnSet own (read_kb limit sheet) ws ≡ own k ws
-    says-own own = ap (λ (s : Reading). saysOnSet own s ws) (l.read z).1 ∙ says-enough own ws k (l.read z).2
+    says_own : (own : Kb → List ℕ → List ℕ) → says_on_set own (read_kb limit sheet) ws ≡ own k ws
+    says_own own = ap (λ (s : Reading). says_on_set own s ws) (l.read z).1 ∙ says-enough own ws k (l.read z).2
 
-    leaves-own : (own : Kb → List ℕ → List ℕ) → leavesOnSet own (read_kb limit sheet) ws ≡ own k ws
-    leaves-own own = ap (λ (s : Reading). leavesOnSet own s ws) (l.read z).1 ∙ leaves-enough own ws k (l.read z).2
+    leaves_own : (own : Kb → List ℕ → List ℕ) → leaves_on_set own (read_kb limit sheet) ws ≡ own k ws
+    leaves_own own = ap (λ (s : Reading). leaves_on_set own s ws) (l.read z).1 ∙ leaves-enough own ws k (l.read z).2
 
     -- a strike at a number that is none of a domino
     pub strike-past : (i : ℕ) → total r.base.parts.count r.base.parts.roles ≤ i → Strikes (read_kb limit sheet) i ws ws (NotStruck 11 0)
-    unfolding strikeNumbers strikeSays strikeLeaves
+    unfolding strike_numbers strike_says strike_leaves
     strike-past i g =
-        let q : ltb i (dominoes (kb_view k)) ≡ false = le-ltb i _ (subst (λ (x : ℕ). x ≤ i) (total-same sheet r (length ws) l z) g) in
-        record { answer = rw (says-own, q); set = rw (leaves-own, q) }
+        let q : ltb i (dominoes (kb_view k)) ≡ false = le-ltb i _ (subst (λ (x : ℕ). x ≤ i) (total_same sheet r (length ws) l z) g) in
+        record { answer = rw (says_own, q); set = rw (leaves_own, q) }
 
     -- what was done on the tables was done on the knowledge base
     agrees : Agree (view r.base.parts r.base.role r.base.good) (kb_view k)
     agrees = base_agrees sheet (l.read z).1 r.base (l.read z).3
 
     module _ (vs : List ℕ) where
-      pub open-whole : (x : ℕ) → OpensSet (view r.base.parts r.base.role r.base.good) ws vs x → Opens (read_kb limit sheet) ws vs (Opened x)
-      unfolding openNumbers openSays openLeaves
-      open-whole x o =
+      pub open_whole : (x : ℕ) → OpensSet (view r.base.parts r.base.role r.base.good) ws vs x → Opens (read_kb limit sheet) ws vs (Opened x)
+      unfolding open_numbers open_says open_leaves
+      open_whole x o =
           let a = opens_agree _ (kb_view k) agrees o in
-          record { answer = ap (λ (y : ℕ). 0 ∷ 0 ∷ y ∷ []) a.answer ∙ flip (says-own _); set = a.set ∙ flip (leaves-own _) }
+          record { answer = ap (λ (y : ℕ). 0 ∷ 0 ∷ y ∷ []) a.answer ∙ flip (says_own _); set = a.set ∙ flip (leaves_own _) }
 
       pub strike-whole : (i : ℕ) (x : Outcome) → i < total r.base.parts.count r.base.parts.roles
           → StrikesSet (view r.base.parts r.base.role r.base.good) i ws vs x → Strikes (read_kb limit sheet) i ws vs (Tried x)
-      unfolding strikeNumbers strikeSays strikeLeaves
+      unfolding strike_numbers strike_says strike_leaves
       strike-whole i x g o =
           let a = strikes_agree _ (kb_view k) agrees g o in
-          let y : ltb i (dominoes (kb_view k)) ≡ true = lt-ltb i _ (subst (λ (x : ℕ). i < x) (total-same sheet r (length ws) l z) g) in
+          let y : ltb i (dominoes (kb_view k)) ≡ true = lt-ltb i _ (subst (λ (x : ℕ). i < x) (total_same sheet r (length ws) l z) g) in
           record {
-            answer = rw (says-own, y) (ap₂ (λ (y : ℕ) (u : Verdict). 0 ∷ 0 ∷ y ∷ verdictNumbers u) a.number a.verdict);
-            set = a.set ∙ flip (leaves-own _);
+            answer = rw (says_own, y) (ap₂ (λ (y : ℕ) (u : Verdict). 0 ∷ 0 ∷ y ∷ verdict_numbers u) a.number a.verdict);
+            set = a.set ∙ flip (leaves_own _);
           }
 
       pub settle-whole : (x : ℕ) → SettlesSet (view r.base.parts r.base.role r.base.good) ws vs x → Settles (read_kb limit sheet) ws vs (Settled x)
-      unfolding settleNumbers settleSays settleLeaves
+      unfolding settle_numbers settle_says settle_leaves
       settle-whole x o =
           let a = settles_agree _ (kb_view k) agrees o in
-          record { answer = ap (λ (y : ℕ). 0 ∷ 0 ∷ y ∷ []) a.answer ∙ flip (says-own _); set = a.set ∙ flip (leaves-own _) }
+          record { answer = ap (λ (y : ℕ). 0 ∷ 0 ∷ y ∷ []) a.answer ∙ flip (says_own _); set = a.set ∙ flip (leaves_own _) }
 
-      pub judge-whole : (x : Judgement) → JudgesSet (view r.base.parts r.base.role r.base.good) ws vs x
+      pub judge_whole : (x : Judgement) → JudgesSet (view r.base.parts r.base.role r.base.good) ws vs x
           → Judges (read_kb limit sheet) ws vs (Judged x.opening x.survivors (not (eqb x.survivors 0)))
-      unfolding judgeNumbers judgeSays judgeLeaves
-      judge-whole x o =
+      unfolding judge_numbers judge_says judge_leaves
+      judge_whole x o =
           let a = judges_agree _ (kb_view k) agrees o in
           record {
             answer = ap (λ (y : ℕ). 0 ∷ 0 ∷ x.opening ∷ x.survivors ∷ y ∷ []) (turned (eqb x.survivors 0))
                 ∙ ap₂ (λ (y u : ℕ). 0 ∷ 0 ∷ y ∷ u ∷ cond (eqb u 0) 0 1 ∷ []) a.opening a.survivors
-                ∙ flip (says-own _);
-            set = a.set ∙ flip (leaves-own _);
+                ∙ flip (says_own _);
+            set = a.set ∙ flip (leaves_own _);
           }

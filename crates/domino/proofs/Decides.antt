@@ -21,11 +21,11 @@ use Rattle.semantics.proofs.Canonical.{canon-largest}
 use Rattle.semantics.proofs.Verdict.{sheet-verdict, model_dominoes}
 use Rattle.domino.specs.declared.JudgeAnswer.{JudgeAnswer}
 use Rattle.domino.specs.declared.JudgeAnswer.TheVariants.{Refused, Judged}
-use Rattle.domino.specs.Answers.{isSetRefusal, onSet, judgeNumbers, judgeSays, judgeLeaves, Judges}
+use Rattle.domino.specs.Answers.{is_set_refusal, on_set, judge_numbers, judge_says, judge_leaves, Judges}
 use Rattle.domino.specs.Decides.{RefusedRightly, DecidedRightly, Decides}
 use Rattle.domino.proofs.OnSet.{on_why, on_cases, says-refusal, leaves-refusal}
 use Rattle.elimination.proofs.Written.{written-past}
-use Rattle.domino.proofs.WordsEnough.{judge_says, judge_leaves}
+use Rattle.domino.proofs.WordsEnough.{judge_says_lem, judge_leaves_lem}
 use Rattle.domino.proofs.Demand2.{canon-number, judged, values, verdict-is, survives}
 
 -- lists of other lengths
@@ -34,9 +34,9 @@ unequal a b e h = absurd (omega (arith, ap length e))
 
 -- ---- a refusal
 
-module _ (sheet before : List ℕ) (n p : ℕ) (e : onSet refusal kb (read_kb limit sheet) (length before) ≡ refusal n p) where
+module _ (sheet before : List ℕ) (n p : ℕ) (e : on_set refusal kb (read_kb limit sheet) (length before) ≡ refusal n p) where
   refused_rightly : RefusedRightly sheet before before n p
-  unfolding isSetRefusal is_record_fault is_reference_fault
+  unfolding is_set_refusal is_record_fault is_reference_fault
   refused_rightly =
       let w = on_why (read_kb limit sheet) (length before) n p e in
       record {
@@ -46,16 +46,16 @@ module _ (sheet before : List ℕ) (n p : ℕ) (e : onSet refusal kb (read_kb li
         untouched = refl;
       }
 
-  judge_says_so : judgeSays (read_kb limit sheet) before ≡ n ∷ p ∷ []
-  unfolding judgeSays
+  judge_says_so : judge_says (read_kb limit sheet) before ≡ n ∷ p ∷ []
+  unfolding judge_says
   judge_says_so = says-refusal _ before (read_kb limit sheet) n p e
 
-  judge_leaves_so : judgeLeaves (read_kb limit sheet) before ≡ before
-  unfolding judgeLeaves
+  judge_leaves_so : judge_leaves (read_kb limit sheet) before ≡ before
+  unfolding judge_leaves
   judge_leaves_so = leaves-refusal _ before (read_kb limit sheet) n p e
 
   from-refusal : (after : List ℕ) (r : JudgeAnswer) → Judges (read_kb limit sheet) before after r → Decides sheet before after r
-  unfolding judgeNumbers
+  unfolding judge_numbers
   from-refusal after (Refused m q) j =
       let a : n ∷ p ∷ [] ≡ m ∷ q ∷ [] = flip (j.answer ∙ judge_says_so) in
       let i : n ≡ m = cc in
@@ -70,28 +70,28 @@ module _ (sheet before : List ℕ) (n p : ℕ) (e : onSet refusal kb (read_kb li
 -- ---- an answer
 
 -- a verdict, as a number and as a truth value
-verdict_of : {X : Type 0} (m : Bool) → ((◌≡◌ {A = ℕ} (cond m 1 0) 1) × X) ⊎ ((◌≡◌ {A = ℕ} (cond m 1 0) 0) × (X → ⊥))
+verdict_of_lem : {X : Type 0} (m : Bool) → ((◌≡◌ {A = ℕ} (cond m 1 0) 1) × X) ⊎ ((◌≡◌ {A = ℕ} (cond m 1 0) 0) × (X → ⊥))
     → ((m ≡ true) ↔ X) × ((m ≡ false) ↔ (X → ⊥))
-verdict_of true (inl f) = ((λ e. f.1, λ x. refl), (λ e x. let z : ◌≡◌ {A = ℕ} 0 1 = cc in omega arith, λ g. absurd (g f.1)))
-verdict_of true (inr f) = absurd (omega (arith, f.0))
-verdict_of false (inl f) = absurd (omega (arith, f.0))
-verdict_of false (inr f) = ((λ e. let z : ◌≡◌ {A = ℕ} 0 1 = cc in absurd (omega arith), λ x. absurd (f.1 x)), (λ e. f.1, λ g. refl))
+verdict_of_lem true (inl f) = ((λ e. f.1, λ x. refl), (λ e x. let z : ◌≡◌ {A = ℕ} 0 1 = cc in omega arith, λ g. absurd (g f.1)))
+verdict_of_lem true (inr f) = absurd (omega (arith, f.0))
+verdict_of_lem false (inl f) = absurd (omega (arith, f.0))
+verdict_of_lem false (inr f) = ((λ e. let z : ◌≡◌ {A = ℕ} 0 1 = cc in absurd (omega arith), λ x. absurd (f.1 x)), (λ e. f.1, λ g. refl))
 
 module _ (sheet before : List ℕ) (k : Kb) (e : read_kb limit sheet ≡ kb k) (h : held (kb_view k) ≤ length before) where
-  says : judgeSays (read_kb limit sheet) before ≡ judgeSays (kb k) before
-  says = ap (λ (s : Reading). judgeSays s before) e
+  says : judge_says (read_kb limit sheet) before ≡ judge_says (kb k) before
+  says = ap (λ (s : Reading). judge_says s before) e
 
   module _ (o n : ℕ) (m : Bool) (after : List ℕ) (j : Judges (read_kb limit sheet) before after (Judged o n m)) where
-    answers : judgeSays (kb k) before ≡ 0 ∷ 0 ∷ o ∷ n ∷ cond m 1 0 ∷ []
-    unfolding judgeNumbers
+    answers : judge_says (kb k) before ≡ 0 ∷ 0 ∷ o ∷ n ∷ cond m 1 0 ∷ []
+    unfolding judge_numbers
     answers = flip (j.answer ∙ says)
 
-    leaves : after ≡ judgeLeaves (kb k) before
-    leaves = j.set ∙ ap (λ (s : Reading). judgeLeaves s before) e
+    leaves : after ≡ judge_leaves (kb k) before
+    leaves = j.set ∙ ap (λ (s : Reading). judge_leaves s before) e
 
     verdict : ((m ≡ true) ↔ Met (canon_dominoes (kb_view k))) × ((m ≡ false) ↔ (Met (canon_dominoes (kb_view k)) → ⊥))
     verdict =
-        verdict_of m (verdict-is k before h (cond m 1 0) (eqb (size (dominoes (kb_view k)) (canon (kb_view k))) 0) refl
+        verdict_of_lem m (verdict-is k before h (cond m 1 0) (eqb (size (dominoes (kb_view k)) (canon (kb_view k))) 0) refl
         (values k before h o n (cond m 1 0) answers).2)
 
     decided_rightly : DecidedRightly k before after o n m
@@ -99,7 +99,7 @@ module _ (sheet before : List ℕ) (k : Kb) (e : read_kb limit sheet ≡ kb k) (
         let v : View = kb_view k in
         let t = sheet-verdict limit sheet k e in
         let w = values k before h o n (cond m 1 0) answers in
-        let left : (p : ℕ) → look after p ≡ look (judgeLeaves (kb k) before) p = λ p. ap (λ (us : List ℕ). look us p) leaves in
+        let left : (p : ℕ) → look after p ≡ look (judge_leaves (kb k) before) p = λ p. ap (λ (us : List ℕ). look us p) leaves in
         record {
           enough = h;
           can_be_met = (λ q. t.0 (verdict.0.0 q), λ q. verdict.0.1 (t.1 q));
@@ -112,8 +112,8 @@ module _ (sheet before : List ℕ) (k : Kb) (e : read_kb limit sheet ≡ kb k) (
               ∙ judged k before h (number v.parts v.roles A R B) (number_lt v.parts v.roles A R B d)
               ∙ canon-number v A R B d;
           largest = canon-largest v;
-          words = leaves ∙ judge_leaves k before h;
-          past = ap (drop (held v)) (leaves ∙ judge_leaves k before h) ∙ written-past (held v) (dominoes v) (canon v) before;
+          words = leaves ∙ judge_leaves_lem k before h;
+          past = ap (drop (held v)) (leaves ∙ judge_leaves_lem k before h) ∙ written-past (held v) (dominoes v) (canon v) before;
           models-inside = λ I i A R B d.
               left (number v.parts v.roles A R B) ∙ survives k before h A R B (model_dominoes limit sheet k e I i A R B d);
           opening-size = w.0;
@@ -121,8 +121,8 @@ module _ (sheet before : List ℕ) (k : Kb) (e : read_kb limit sheet ≡ kb k) (
         }
 
   from-read : (after : List ℕ) (r : JudgeAnswer) → Judges (read_kb limit sheet) before after r → Decides sheet before after r
-  unfolding judgeNumbers
-  from-read after (Refused m q) j = unequal (m ∷ q ∷ []) _ (j.answer ∙ says ∙ judge_says k before h) (omega arith)
+  unfolding judge_numbers
+  from-read after (Refused m q) j = unequal (m ∷ q ∷ []) _ (j.answer ∙ says ∙ judge_says_lem k before h) (omega arith)
   from-read after (Judged o n m) j = (k, e, decided_rightly o n m after j)
 
 -- for any bytes and words, and any answer and words that meet the contract of judge

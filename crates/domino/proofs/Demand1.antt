@@ -20,33 +20,33 @@ use Rattle.elimination.proofs.Written.{strike-long, written-long, written-past, 
 use Rattle.records.specs.Places.{is_record_fault, is_reference_fault, Placed}
 use Rattle.records.proofs.Places.{place_none}
 use Rattle.syntax.specs.Reading.{Kb, Reading, refusal, kb, parts_of, read_kb, is_read_refusal}
-use Rattle.syntax.specs.Answers.{limit, readSays, listSays, listLeaves, bytes_of, isListRefusal}
+use Rattle.syntax.specs.Answers.{limit, read_says, list_says, list_leaves, bytes_of, is_list_refusal}
 use Rattle.syntax.proofs.ListBytes.{bytes-long}
 use Rattle.syntax.proofs.Refusals.{UpTo, one_more, one_wider, read_refusals, refusal-number, refusal-placed}
 use Rattle.semantics.specs.Conditions.{View, dominoes, initial, defective, canon, held}
 use Rattle.semantics.specs.Views.{kb_view}
 use Rattle.semantics.proofs.Defects.{defective_monotone}
-use Rattle.domino.specs.Answers.{isShort, isSetRefusal, isStrikeRefusal, saysOnSet, leavesOnSet, verdictNumbers, verdictOf, openSays, openLeaves, strikeSays, strikeLeaves, settleSays, settleLeaves, judgeSays, judgeLeaves}
+use Rattle.domino.specs.Answers.{is_short, is_set_refusal, is_strike_refusal, says_on_set, leaves_on_set, verdict_numbers, verdict_of, open_says, open_leaves, strike_says, strike_leaves, settle_says, settle_leaves, judge_says, judge_leaves}
 use Rattle.domino.specs.Demanded.{refusal_of, place_of, Refuses, RefusesShort, RefusesOnSet, RefusesOnList, Demand1, Demand1Listed, Demand1Done}
 use Rattle.domino.proofs.OnSet.{says-refused, leaves-refused, says-short, leaves-short, says-enough, leaves-enough}
-use Rattle.domino.proofs.WordsEnough.{held-some, open_says, open_leaves, strike-says, strike-beyond, settle-says, settle-leaves, judge_says, judge_leaves}
+use Rattle.domino.proofs.WordsEnough.{held-some, open_says_lem, open_leaves_lem, strike-says, strike-beyond, settle-says, settle-leaves, judge_says_lem, judge_leaves_lem}
 
 -- ---- the numbers of refusals are those of an interval, and 16 and 17
 
-pub list_refusals : (n : ℕ) → (isListRefusal n ≡ true) ↔ (UpTo 9 n ⊎ (n ≡ 12))
-unfolding isListRefusal
+pub list_refusals : (n : ℕ) → (is_list_refusal n ≡ true) ↔ (UpTo 9 n ⊎ (n ≡ 12))
+unfolding is_list_refusal
 list_refusals n =
     let w = one_more (is_read_refusal n) n 12 in
     let r = read_refusals n in
     (λ e. ⊎_elim (λ f. inl (r.0 f)) inr (w.0 e), λ h. w.1 (⊎_elim (λ f. inl (r.1 f)) inr h))
 
-pub set_refusals : (n : ℕ) → (isSetRefusal n ≡ true) ↔ UpTo 10 n
-unfolding isSetRefusal
+pub set_refusals : (n : ℕ) → (is_set_refusal n ≡ true) ↔ UpTo 10 n
+unfolding is_set_refusal
 set_refusals n = one_wider is_read_refusal 9 n (read_refusals n)
 
-pub strike_refusals : (n : ℕ) → (isStrikeRefusal n ≡ true) ↔ UpTo 11 n
-unfolding isStrikeRefusal
-strike_refusals n = one_wider isSetRefusal 10 n (set_refusals n)
+pub strike_refusals : (n : ℕ) → (is_strike_refusal n ≡ true) ↔ UpTo 11 n
+unfolding is_strike_refusal
+strike_refusals n = one_wider is_set_refusal 10 n (set_refusals n)
 
 -- ---- the cases of a call that refuses with the numbers `refusals`, those of read among them
 
@@ -117,13 +117,13 @@ module _ (refusals : ℕ → Bool) (those : (n : ℕ) → is_read_refusal n ≡ 
 
 -- ---- the cases of a call on a set
 
-module _ (refusals : ℕ → Bool) (those : (n : ℕ) → isSetRefusal n ≡ true → refusals n ≡ true) (sheet ws : List ℕ) where
+module _ (refusals : ℕ → Bool) (those : (n : ℕ) → is_set_refusal n ≡ true → refusals n ≡ true) (sheet ws : List ℕ) where
   as_read : (n : ℕ) → is_read_refusal n ≡ true → refusals n ≡ true
-  unfolding isSetRefusal
+  unfolding is_set_refusal
   as_read n e = those n (rw e)
 
   ten : refusals 10 ≡ true
-  unfolding is_record_fault is_reference_fault is_read_refusal isSetRefusal
+  unfolding is_record_fault is_reference_fault is_read_refusal is_set_refusal
   ten = those 10 refl
 
   set-enough : (k : Kb) → read_kb limit sheet ≡ kb k → (says after : List ℕ) → held (kb_view k) ≤ length ws → Refuses refusals sheet ws says after
@@ -141,13 +141,13 @@ module _ (refusals : ℕ → Bool) (those : (n : ℕ) → isSetRefusal n ≡ tru
   -- a call that does so with words enough does so with any
   from_any : (says leaves : Kb → List ℕ → List ℕ)
       → ((k : Kb) → read_kb limit sheet ≡ kb k → held (kb_view k) ≤ length ws → RefusesOnSet refusals sheet ws (says k ws) (leaves k ws))
-      → (s : Reading) → read_kb limit sheet ≡ s → RefusesOnSet refusals sheet ws (saysOnSet says s ws) (leavesOnSet leaves s ws)
+      → (s : Reading) → read_kb limit sheet ≡ s → RefusesOnSet refusals sheet ws (says_on_set says s ws) (leaves_on_set leaves s ws)
   unfolding is_record_fault is_reference_fault
   from_any says leaves f (refusal n p) e =
       rw (says-refused says ws n p, leaves-refused leaves ws n p) (from-refusal refusals as_read sheet ws 10 ten refl refl (λ k. held (kb_view k)) n p e)
-  from_any says leaves f (kb k) e = go (isShort k ws) refl
+  from_any says leaves f (kb k) e = go (is_short k ws) refl
     where
-      go : (b : Bool) → isShort k ws ≡ b → RefusesOnSet refusals sheet ws (saysOnSet says (kb k) ws) (leavesOnSet leaves (kb k) ws)
+      go : (b : Bool) → is_short k ws ≡ b → RefusesOnSet refusals sheet ws (says_on_set says (kb k) ws) (leaves_on_set leaves (kb k) ws)
       go true q =
           let h : length ws < held (kb_view k) = ltb-true (length ws) (held (kb_view k)) q in
           rw (says-short says ws k h, leaves-short leaves ws k h)
@@ -158,87 +158,87 @@ module _ (refusals : ℕ → Bool) (those : (n : ℕ) → isSetRefusal n ≡ tru
 
 -- ---- the calls
 
-read-refuses : (sheet : List ℕ) → Refuses is_read_refusal sheet [] (readSays (read_kb limit sheet)) []
-unfolding readSays
+read-refuses : (sheet : List ℕ) → Refuses is_read_refusal sheet [] (read_says (read_kb limit sheet)) []
+unfolding read_says
 read-refuses sheet = go (read_kb limit sheet) refl
   where
-    go : (s : Reading) → read_kb limit sheet ≡ s → Refuses is_read_refusal sheet [] (readSays s) []
+    go : (s : Reading) → read_kb limit sheet ≡ s → Refuses is_read_refusal sheet [] (read_says s) []
     go (refusal n p) e = refused is_read_refusal (λ n h. h) sheet [] n p e
     go (kb k) e = no_refusal is_read_refusal (λ n h. h) sheet [] k e _ [] refl
 
 abbrev needed : Kb → ℕ
 needed k = 3 * length (parts_of k)
 
-list_refuses : (sheet list : List ℕ) → RefusesOnList sheet list (listSays (read_kb limit sheet) list) (listLeaves (read_kb limit sheet) list)
-unfolding listSays listLeaves is_record_fault is_reference_fault is_read_refusal isListRefusal
-list_refuses sheet list = go (read_kb limit sheet) refl
+list-refuses : (sheet list : List ℕ) → RefusesOnList sheet list (list_says (read_kb limit sheet) list) (list_leaves (read_kb limit sheet) list)
+unfolding list_says list_leaves is_record_fault is_reference_fault is_read_refusal is_list_refusal
+list-refuses sheet list = go (read_kb limit sheet) refl
   where
-    listed : (n : ℕ) → is_read_refusal n ≡ true → isListRefusal n ≡ true
+    listed : (n : ℕ) → is_read_refusal n ≡ true → is_list_refusal n ≡ true
     listed n e = rw e
 
     read : (k : Kb) → read_kb limit sheet ≡ kb k → (b : Bool) → ltb (length list) (needed k) ≡ b
         → RefusesOnList sheet list (cond b (12 ∷ 0 ∷ []) (0 ∷ 0 ∷ length (parts_of k) ∷ []))
         (cond b list (bytes_of (parts_of k) ++ drop (needed k) list))
-    read k e true q = from-short isListRefusal listed sheet list 12 refl refl refl needed k e
+    read k e true q = from-short is_list_refusal listed sheet list 12 refl refl refl needed k e
     read k e false q =
         let h : needed k ≤ length list = ltb-false (length list) (needed k) q in
         let b = bytes-long (parts_of k) in
         let bytes : List ℕ = bytes_of (parts_of k) ++ drop (needed k) list in
         let long : length bytes ≡ length list = omega (arith, h, b, length-append (bytes_of (parts_of k)) (drop (needed k) list), length-drop (needed k) list) in
-        from-enough isListRefusal listed sheet list 12 refl refl refl needed k e _ bytes h
-        (no_refusal isListRefusal listed sheet list k e _ bytes long) (drop_at (bytes_of (parts_of k)) (drop (needed k) list) (needed k) b)
+        from-enough is_list_refusal listed sheet list 12 refl refl refl needed k e _ bytes h
+        (no_refusal is_list_refusal listed sheet list k e _ bytes long) (drop_at (bytes_of (parts_of k)) (drop (needed k) list) (needed k) b)
 
-    go : (s : Reading) → read_kb limit sheet ≡ s → RefusesOnList sheet list (listSays s list) (listLeaves s list)
-    go (refusal n p) e = from-refusal isListRefusal listed sheet list 12 refl refl refl needed n p e
+    go : (s : Reading) → read_kb limit sheet ≡ s → RefusesOnList sheet list (list_says s list) (list_leaves s list)
+    go (refusal n p) e = from-refusal is_list_refusal listed sheet list 12 refl refl refl needed n p e
     go (kb k) e = read k e (ltb (length list) (needed k)) refl
 
-struck_too : (n : ℕ) → isSetRefusal n ≡ true → isStrikeRefusal n ≡ true
-unfolding isStrikeRefusal
+struck_too : (n : ℕ) → is_set_refusal n ≡ true → is_strike_refusal n ≡ true
+unfolding is_strike_refusal
 struck_too n e = rw e
 
 module _ (sheet ws : List ℕ) where
-  open_refuses : RefusesOnSet isSetRefusal sheet ws (openSays (read_kb limit sheet) ws) (openLeaves (read_kb limit sheet) ws)
-  unfolding openSays openLeaves
+  open_refuses : RefusesOnSet is_set_refusal sheet ws (open_says (read_kb limit sheet) ws) (open_leaves (read_kb limit sheet) ws)
+  unfolding open_says open_leaves
   open_refuses =
-      from_any isSetRefusal (λ n e. e) sheet ws _ _ (λ k e h. written-done isSetRefusal (λ n e. e) sheet ws k e _ (initial (kb_view k)) h) (read_kb limit sheet) refl
+      from_any is_set_refusal (λ n e. e) sheet ws _ _ (λ k e h. written-done is_set_refusal (λ n e. e) sheet ws k e _ (initial (kb_view k)) h) (read_kb limit sheet) refl
 
-  strike-refuses : (n : ℕ) → RefusesOnSet isStrikeRefusal sheet ws (strikeSays (read_kb limit sheet) n ws) (strikeLeaves (read_kb limit sheet) n ws)
-  unfolding strikeSays strikeLeaves is_record_fault is_reference_fault is_read_refusal isSetRefusal isStrikeRefusal
-  strike-refuses n = from_any isStrikeRefusal struck_too sheet ws _ _ (λ k e h. go k e h (ltb n (dominoes (kb_view k))) refl) (read_kb limit sheet) refl
+  strike-refuses : (n : ℕ) → RefusesOnSet is_strike_refusal sheet ws (strike_says (read_kb limit sheet) n ws) (strike_leaves (read_kb limit sheet) n ws)
+  unfolding strike_says strike_leaves is_record_fault is_reference_fault is_read_refusal is_set_refusal is_strike_refusal
+  strike-refuses n = from_any is_strike_refusal struck_too sheet ws _ _ (λ k e h. go k e h (ltb n (dominoes (kb_view k))) refl) (read_kb limit sheet) refl
     where
       go : (k : Kb) → read_kb limit sheet ≡ kb k → held (kb_view k) ≤ length ws → (d : Bool) → ltb n (dominoes (kb_view k)) ≡ d
-          → RefusesOnSet isStrikeRefusal sheet ws (cond d (0 ∷ 0 ∷ n ∷ verdictNumbers (verdictOf (kb_view k) (look ws) n)) (11 ∷ 0 ∷ []))
+          → RefusesOnSet is_strike_refusal sheet ws (cond d (0 ∷ 0 ∷ n ∷ verdict_numbers (verdict_of (kb_view k) (look ws) n)) (11 ∷ 0 ∷ []))
           (strike_words (dominoes (kb_view k)) (defective (kb_view k)) n ws)
       go k e h true r =
-          set-enough isStrikeRefusal struck_too sheet ws k e _ (strike_words (dominoes (kb_view k)) (defective (kb_view k)) n ws) h
-          (no_refusal isStrikeRefusal (as_read isStrikeRefusal struck_too sheet ws) sheet ws k e _ (strike_words (dominoes (kb_view k)) (defective (kb_view k)) n ws)
+          set-enough is_strike_refusal struck_too sheet ws k e _ (strike_words (dominoes (kb_view k)) (defective (kb_view k)) n ws) h
+          (no_refusal is_strike_refusal (as_read is_strike_refusal struck_too sheet ws) sheet ws k e _ (strike_words (dominoes (kb_view k)) (defective (kb_view k)) n ws)
           (strike-long (dominoes (kb_view k)) (defective (kb_view k)) n ws))
           (strike-past (held (kb_view k)) (dominoes (kb_view k)) (defective (kb_view k)) n ws (words-room (dominoes (kb_view k))))
       go k e h false r =
-          set-enough isStrikeRefusal struck_too sheet ws k e (11 ∷ 0 ∷ []) (strike_words (dominoes (kb_view k)) (defective (kb_view k)) n ws) h
-          (answered isStrikeRefusal (as_read isStrikeRefusal struck_too sheet ws) sheet ws k e (11 ∷ 0 ∷ [])
+          set-enough is_strike_refusal struck_too sheet ws k e (11 ∷ 0 ∷ []) (strike_words (dominoes (kb_view k)) (defective (kb_view k)) n ws) h
+          (answered is_strike_refusal (as_read is_strike_refusal struck_too sheet ws) sheet ws k e (11 ∷ 0 ∷ [])
           (strike_words (dominoes (kb_view k)) (defective (kb_view k)) n ws) (place_none sheet 11 refl refl)
           (λ a. (refl, ap (λ (x : Bool). cond (x && (look ws n && defective (kb_view k) (look ws) n)) (cleared ws n) ws) r))
           (strike-long (dominoes (kb_view k)) (defective (kb_view k)) n ws))
           (strike-past (held (kb_view k)) (dominoes (kb_view k)) (defective (kb_view k)) n ws (words-room (dominoes (kb_view k))))
 
-  settle-refuses : RefusesOnSet isSetRefusal sheet ws (settleSays (read_kb limit sheet) ws) (settleLeaves (read_kb limit sheet) ws)
-  unfolding settleSays settleLeaves
+  settle-refuses : RefusesOnSet is_set_refusal sheet ws (settle_says (read_kb limit sheet) ws) (settle_leaves (read_kb limit sheet) ws)
+  unfolding settle_says settle_leaves
   settle-refuses =
-      from_any isSetRefusal (λ n e. e) sheet ws _ _
-      (λ k e h. written-done isSetRefusal (λ n e. e) sheet ws k e _ (settled (dominoes (kb_view k)) (defective (kb_view k)) (look ws)) h)
+      from_any is_set_refusal (λ n e. e) sheet ws _ _
+      (λ k e h. written-done is_set_refusal (λ n e. e) sheet ws k e _ (settled (dominoes (kb_view k)) (defective (kb_view k)) (look ws)) h)
       (read_kb limit sheet) refl
 
-  judge_refuses : RefusesOnSet isSetRefusal sheet ws (judgeSays (read_kb limit sheet) ws) (judgeLeaves (read_kb limit sheet) ws)
-  unfolding judgeSays judgeLeaves
+  judge_refuses : RefusesOnSet is_set_refusal sheet ws (judge_says (read_kb limit sheet) ws) (judge_leaves (read_kb limit sheet) ws)
+  unfolding judge_says judge_leaves
   judge_refuses =
-      from_any isSetRefusal (λ n e. e) sheet ws _ _ (λ k e h. written-done isSetRefusal (λ n e. e) sheet ws k e _ (canon (kb_view k)) h) (read_kb limit sheet) refl
+      from_any is_set_refusal (λ n e. e) sheet ws _ _ (λ k e h. written-done is_set_refusal (λ n e. e) sheet ws k e _ (canon (kb_view k)) h) (read_kb limit sheet) refl
 
 pub demand_1 : (sheet list ws : List ℕ) (n : ℕ) → Demand1 sheet list ws n
 demand_1 sheet list ws n =
     record {
       reading = read-refuses sheet;
-      listing = list_refuses sheet list;
+      listing = list-refuses sheet list;
       opening = open_refuses sheet ws;
       striking = strike-refuses sheet ws n;
       settling = settle-refuses sheet ws;
@@ -247,8 +247,8 @@ demand_1 sheet list ws n =
 
 -- no words are too few for every sheet that is read, the empty one too
 pub no_words : (sheet : List ℕ) (k : Kb) (n : ℕ) → read_kb limit sheet ≡ kb k
-    → (openSays (read_kb limit sheet) [] ≡ 10 ∷ 0 ∷ []) × (strikeSays (read_kb limit sheet) n [] ≡ 10 ∷ 0 ∷ [])
-    × (settleSays (read_kb limit sheet) [] ≡ 10 ∷ 0 ∷ []) × (judgeSays (read_kb limit sheet) [] ≡ 10 ∷ 0 ∷ [])
+    → (open_says (read_kb limit sheet) [] ≡ 10 ∷ 0 ∷ []) × (strike_says (read_kb limit sheet) n [] ≡ 10 ∷ 0 ∷ [])
+    × (settle_says (read_kb limit sheet) [] ≡ 10 ∷ 0 ∷ []) × (judge_says (read_kb limit sheet) [] ≡ 10 ∷ 0 ∷ [])
 no_words sheet k n e =
     let d = demand_1 sheet [] [] n in
     let l : 0 < held (kb_view k) = held-some (kb_view k) in
@@ -257,23 +257,23 @@ no_words sheet k n e =
 -- read and list marks do their work
 pub demand_1-listed : (sheet : List ℕ) (k : Kb) → read_kb limit sheet ≡ kb k → (list : List ℕ)
     → Demand1Listed (read_kb limit sheet) k list
-unfolding readSays listSays listLeaves
+unfolding read_says list_says list_leaves
 demand_1-listed sheet k e list =
     let c : ℕ = needed k in
     record {
-      reads = ap readSays e;
-      lists = λ h. ap (λ (s : Reading). listSays s list) e ∙ rw (le-ltb (length list) c h);
+      reads = ap read_says e;
+      lists = λ h. ap (λ (s : Reading). list_says s list) e ∙ rw (le-ltb (length list) c h);
       bytes = λ h.
-          ap (λ (s : Reading). take c (listLeaves s list)) e
+          ap (λ (s : Reading). take c (list_leaves s list)) e
           ∙ rw (le-ltb (length list) c h) (take_at (bytes_of (parts_of k)) (drop c list) c (bytes-long (parts_of k)));
-      past = (list_refuses sheet list).past k e;
+      past = (list-refuses sheet list).past k e;
     }
 
 -- ---- enough words
 
 module _ (k : Kb) (ws : List ℕ) (h : held (kb_view k) ≤ length ws) where
   -- settling what was opened leaves what judging leaves
-  pub opened-settled : judgeLeaves (kb k) ws ≡ settleLeaves (kb k) (openLeaves (kb k) ws)
+  pub opened-settled : judge_leaves (kb k) ws ≡ settle_leaves (kb k) (open_leaves (kb k) ws)
   unfolding canon
   opened-settled =
       let v : View = kb_view k in
@@ -281,20 +281,20 @@ module _ (k : Kb) (ws : List ℕ) (h : held (kb_view k) ≤ length ws) where
       let left : Set = settled (dominoes v) (defective v) (look us) in
       let same : Same (dominoes v) (canon v) left = λ p l. flip (settled_same (dominoes v) (defective v) (defective_monotone v) (look us) (initial v)
       (written-look (held v) (dominoes v) (initial v) ws (words-room (dominoes v))) p l) in
-      judge_leaves k ws h
+      judge_leaves_lem k ws h
       ∙ written_same (held v) (dominoes v) (canon v) left ws same
       ∙ flip (written-again (held v) (dominoes v) (initial v) left ws)
-      ∙ flip (ap (settleLeaves (kb k)) (open_leaves k ws h)
+      ∙ flip (ap (settle_leaves (kb k)) (open_leaves_lem k ws h)
       ∙ settle-leaves k us (omega (arith, written-long (held v) (dominoes v) (initial v) ws h)))
 
   done : (n : ℕ) → Demand1Done (kb k) (kb_view k) ws n
   done n =
       record {
-        opens = ap refusal_of (open_says k ws h);
+        opens = ap refusal_of (open_says_lem k ws h);
         strikes = λ l. ap refusal_of (strike-says k ws h n l);
         beyond = strike-beyond k ws h n;
         settles = ap refusal_of (settle-says k ws h);
-        judges = ap refusal_of (judge_says k ws h);
+        judges = ap refusal_of (judge_says_lem k ws h);
         settled = opened-settled;
       }
 

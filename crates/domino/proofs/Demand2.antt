@@ -27,9 +27,9 @@ use Rattle.semantics.proofs.Defects.{lacks_monotone, defective_monotone}
 use Rattle.semantics.proofs.Canonical.{dominoes_of, of_domino, of_number, of_unnumbered, canon-stable, canon-largest, canon-sym, canon-begins}
 use Rattle.semantics.proofs.Stages.{final_canon, final_reached}
 use Rattle.semantics.proofs.Verdict.{sheet-verdict, model_dominoes}
-use Rattle.domino.specs.Answers.{openLeaves, judgeSays, judgeLeaves}
+use Rattle.domino.specs.Answers.{open_leaves, judge_says, judge_leaves}
 use Rattle.domino.specs.Demanded.{Demand2, FixedBySheet, NeverStranded, Demand2Models}
-use Rattle.domino.proofs.WordsEnough.{open_leaves, judge_says, judge_leaves, ones-left, stable-words, words-stable}
+use Rattle.domino.proofs.WordsEnough.{open_leaves_lem, judge_says_lem, judge_leaves_lem, ones-left, stable-words, words-stable}
 
 -- ---- the canonical set on numbers and as dominoes
 
@@ -81,17 +81,17 @@ module _ (v : View) where
 -- ---- what judge answers and leaves
 
 module _ (k : Kb) (ws : List ℕ) (h : held (kb_view k) ≤ length ws) where
-  pub judged : Same (dominoes (kb_view k)) (look (judgeLeaves (kb k) ws)) (canon (kb_view k))
+  pub judged : Same (dominoes (kb_view k)) (look (judge_leaves (kb k) ws)) (canon (kb_view k))
   judged p l =
-      ap (λ (us : List ℕ). look us p) (judge_leaves k ws h)
+      ap (λ (us : List ℕ). look us p) (judge_leaves_lem k ws h)
       ∙ written-look (held (kb_view k)) (dominoes (kb_view k)) (canon (kb_view k)) ws (words-room (dominoes (kb_view k))) p l
 
   -- the three values of an answer that is no refusal
-  pub values : (opening survivors met : ℕ) → judgeSays (kb k) ws ≡ 0 ∷ 0 ∷ opening ∷ survivors ∷ met ∷ []
+  pub values : (opening survivors met : ℕ) → judge_says (kb k) ws ≡ 0 ∷ 0 ∷ opening ∷ survivors ∷ met ∷ []
       → (opening ≡ size (dominoes (kb_view k)) (initial (kb_view k))) × (survivors ≡ size (dominoes (kb_view k)) (canon (kb_view k)))
       × (met ≡ cond (eqb (size (dominoes (kb_view k)) (canon (kb_view k))) 0) 0 1)
   values opening survivors met e =
-      let q = flip e ∙ judge_says k ws h in
+      let q = flip e ∙ judge_says_lem k ws h in
       (ap (λ (l : List ℕ). get_or l 2 0) q, ap (λ (l : List ℕ). get_or l 3 0) q, ap (λ (l : List ℕ). get_or l 4 0) q)
 
   pub verdict-is : (met : ℕ) (b : Bool) → eqb (size (dominoes (kb_view k)) (canon (kb_view k))) 0 ≡ b → met ≡ cond b 0 1
@@ -107,10 +107,10 @@ module _ (k : Kb) (ws : List ℕ) (h : held (kb_view k) ≤ length ws) where
       record {
         members = λ A R B d. same (number v.parts v.roles A R B) (number_lt v.parts v.roles A R B d) ∙ canon-number v A R B d;
         spare = λ n l u.
-            ap (λ (us : List ℕ). look us n) (judge_leaves k ws h) ∙ written-spare (held v) (dominoes v) (canon v) ws n l u;
+            ap (λ (us : List ℕ). look us n) (judge_leaves_lem k ws h) ∙ written-spare (held v) (dominoes v) (canon v) ws n l u;
         largest = canon-largest v;
-        stable = stable-words v (judgeLeaves (kb k) ws)
-            (stable_same (dominoes v) (defective v) (defective_monotone v) (canon v) (look (judgeLeaves (kb k) ws))
+        stable = stable-words v (judge_leaves (kb k) ws)
+            (stable_same (dominoes v) (defective v) (defective_monotone v) (canon v) (look (judge_leaves (kb k) ws))
             (λ p l. flip (same p l)) (canon-stable v));
         most = λ vs r p l u. T_of (flip (same p l)) (canon-most v (look vs) (words-stable v vs r) p l u);
         definition_5 = λ i f A R B d.
@@ -120,14 +120,14 @@ module _ (k : Kb) (ws : List ℕ) (h : held (kb_view k) ≤ length ws) where
         verdict = λ o n m e. verdict-is m (eqb (size (dominoes v) (canon v)) 0) refl (values o n m e).2;
         counts = λ o n m e.
             let w = values o n m e in (
-              w.0 ∙ ones-left v (initial v) ws (openLeaves (kb k) ws) (open_leaves k ws h) t h,
-              w.1 ∙ ones-left v (canon v) ws (judgeLeaves (kb k) ws) (judge_leaves k ws h) t h,
+              w.0 ∙ ones-left v (initial v) ws (open_leaves (kb k) ws) (open_leaves_lem k ws h) t h,
+              w.1 ∙ ones-left v (canon v) ws (judge_leaves (kb k) ws) (judge_leaves_lem k ws h) t h,
             );
       }
 
   -- a domino of the canonical set is in the words left
   pub survives : (A R B : ℕ) → canon_dominoes (kb_view k) A R B ≡ true
-      → look (judgeLeaves (kb k) ws) (number (kb_view k).parts (kb_view k).roles A R B) ≡ true
+      → look (judge_leaves (kb k) ws) (number (kb_view k).parts (kb_view k).roles A R B) ≡ true
   survives A R B e =
       let v : View = kb_view k in
       let d = canon_range v A R B e in
@@ -155,14 +155,14 @@ module _ (k : Kb) (ws : List ℕ) (h : held (kb_view k) ≤ length ws) where
 -- neither the words needed that are left nor what is said depends on the words lent
 module _ (k : Kb) where
   front : (ws : List ℕ) → held (kb_view k) ≤ length ws
-      → take (held (kb_view k)) (judgeLeaves (kb k) ws) ≡ words (held (kb_view k)) (below (dominoes (kb_view k)) (canon (kb_view k)))
+      → take (held (kb_view k)) (judge_leaves (kb k) ws) ≡ words (held (kb_view k)) (below (dominoes (kb_view k)) (canon (kb_view k)))
   front ws h =
       let v : View = kb_view k in
-      ap (take (held v)) (judge_leaves k ws h) ∙ written-front (held v) (dominoes v) (canon v) ws
+      ap (take (held v)) (judge_leaves_lem k ws h) ∙ written-front (held v) (dominoes v) (canon v) ws
 
   fixed : (ws vs : List ℕ) → held (kb_view k) ≤ length ws → held (kb_view k) ≤ length vs → FixedBySheet (kb k) (kb_view k) ws vs
   fixed ws vs h l =
-      record { leaves = front ws h ∙ flip (front vs l); says = judge_says k ws h ∙ flip (judge_says k vs l) }
+      record { leaves = front ws h ∙ flip (front vs l); says = judge_says_lem k ws h ∙ flip (judge_says_lem k vs l) }
 
 pub fixed_by-sheet : (sheet : List ℕ) (k : Kb) → read_kb limit sheet ≡ kb k → (ws vs : List ℕ) → held (kb_view k) ≤ length ws
     → held (kb_view k) ≤ length vs → FixedBySheet (read_kb limit sheet) (kb_view k) ws vs

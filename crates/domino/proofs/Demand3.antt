@@ -24,9 +24,9 @@ use Rattle.semantics.specs.Conditions.{View, dominoes, initial, lacks, defective
 use Rattle.semantics.specs.Views.{kb_view}
 use Rattle.semantics.proofs.Defects.{lacks_monotone, defective-is, defective_monotone, defect-at_same}
 use Rattle.domino.specs.declared.Verdict.{Verdict}
-use Rattle.domino.specs.Answers.{verdictNumbers, verdictOf, openLeaves, strikeSays, strikeLeaves, settleLeaves}
+use Rattle.domino.specs.Answers.{verdict_numbers, verdict_of, open_leaves, strike_says, strike_leaves, settle_leaves}
 use Rattle.domino.specs.Demanded.{StableWords, called, calls_leave, Demand3, Demand3Calls, SpareIgnored}
-use Rattle.domino.proofs.WordsEnough.{open_says, open_leaves, strike-says, strike-beyond, strike-leaves, settle-says, settle-leaves, judge_leaves, ones-left, stable-words, words-stable}
+use Rattle.domino.proofs.WordsEnough.{open_says_lem, open_leaves_lem, strike-says, strike-beyond, strike-leaves, settle-says, settle-leaves, judge_leaves_lem, ones-left, stable-words, words-stable}
 
 -- ---- single calls
 
@@ -66,13 +66,13 @@ module _ (k : Kb) (ws : List ℕ) (h : held (kb_view k) ≤ length ws) (n : ℕ)
   room : dominoes (kb_view k) ≤ 64 * length ws
   room = omega (arith, words-room (dominoes (kb_view k)))
 
-  struck-at : n < dominoes (kb_view k) → look (strikeLeaves (kb k) n ws) n ≡ (look ws n && eqb (defect_at (kb_view k) (look ws) n) 0)
+  struck-at : n < dominoes (kb_view k) → look (strike_leaves (kb k) n ws) n ≡ (look ws n && eqb (defect_at (kb_view k) (look ws) n) 0)
   struck-at l =
       ap (λ (us : List ℕ). look us n) (strike-leaves k ws h n)
       ∙ strike-named (dominoes (kb_view k)) (defective (kb_view k)) n ws (eqb (defect_at (kb_view k) (look ws) n) 0) l room
       (defective-is (kb_view k) (look ws) n)
 
-  others-at : (p : ℕ) → (p ≡ n → ⊥) → look (strikeLeaves (kb k) n ws) p ≡ look ws p
+  others-at : (p : ℕ) → (p ≡ n → ⊥) → look (strike_leaves (kb k) n ws) p ≡ look ws p
   others-at p f =
       ap (λ (us : List ℕ). look us p) (strike-leaves k ws h n)
       ∙ strike-others (dominoes (kb_view k)) (defective (kb_view k)) n p ws room f
@@ -83,26 +83,26 @@ single_calls k ws t h =
     let N : ℕ = dominoes v in
     let left : Set = settled N (defective v) (look ws) in
     let at : (us vs : List ℕ) (n : ℕ) → us ≡ vs → look us n ≡ look vs n = λ us vs n e. ap (λ (l : List ℕ). look l n) e in
-    let best : Largest N (defective v) (look ws) (look (settleLeaves (kb k) ws)) =
-    largest_same N (defective v) (defective_monotone v) (look ws) left (look (settleLeaves (kb k) ws))
+    let best : Largest N (defective v) (look ws) (look (settle_leaves (kb k) ws)) =
+    largest_same N (defective v) (defective_monotone v) (look ws) left (look (settle_leaves (kb k) ws))
     (λ p l. at _ _ p (settle-leaves k ws h) ∙ written-look (held v) N left ws (words-room (dominoes v)) p l)
     (settled-largest N (defective v) (defective_monotone v) (look ws)) in
     record {
-      opened = λ p l. at _ _ p (open_leaves k ws h) ∙ written-look (held v) N (initial v) ws (words-room (dominoes v)) p l;
-      opened-spare = λ n l u. at _ _ n (open_leaves k ws h) ∙ written-spare (held v) N (initial v) ws n l u;
+      opened = λ p l. at _ _ p (open_leaves_lem k ws h) ∙ written-look (held v) N (initial v) ws (words-room (dominoes v)) p l;
+      opened-spare = λ n l u. at _ _ n (open_leaves_lem k ws h) ∙ written-spare (held v) N (initial v) ws n l u;
       opened-count =
-          open_says k ws h
-          ∙ ap (λ (m : ℕ). 0 ∷ 0 ∷ m ∷ []) (ones-left v (initial v) ws (openLeaves (kb k) ws) (open_leaves k ws h) t h);
+          open_says_lem k ws h
+          ∙ ap (λ (m : ℕ). 0 ∷ 0 ∷ m ∷ []) (ones-left v (initial v) ws (open_leaves (kb k) ws) (open_leaves_lem k ws h) t h);
       struck = struck-at k ws h;
       others = others-at k ws h;
       refused = λ n l.
           strike-leaves k ws h n ∙ ap (λ (b : Bool). cond (b && (look ws n && defective v (look ws) n)) (cleared ws n) ws) (le-ltb n N l);
-      stable = stable-words v (settleLeaves (kb k) ws) best.stable;
+      stable = stable-words v (settle_leaves (kb k) ws) best.stable;
       largest = best;
       spare = λ n l u. at _ _ n (settle-leaves k ws h) ∙ written-spare (held v) N left ws n l u;
       count =
           settle-says k ws h
-          ∙ ap (λ (m : ℕ). 0 ∷ 0 ∷ m ∷ []) (ones-left v left ws (settleLeaves (kb k) ws) (settle-leaves k ws h) t h);
+          ∙ ap (λ (m : ℕ). 0 ∷ 0 ∷ m ∷ []) (ones-left v left ws (settle_leaves (kb k) ws) (settle-leaves k ws h) t h);
     }
 
 pub demand_3-calls : (sheet : List ℕ) (k : Kb) → read_kb limit sheet ≡ kb k → (ws : List ℕ) → T (are_words ws)
@@ -113,17 +113,17 @@ demand_3-calls sheet k e ws t h = rw e (single_calls k ws t h)
 
 module _ (k : Kb) (ws vs : List ℕ) (h : held (kb_view k) ≤ length ws) (l : held (kb_view k) ≤ length vs)
     (e : Same (dominoes (kb_view k)) (look ws) (look vs)) where
-  verdict_same : (n : ℕ) → n < dominoes (kb_view k) → verdictOf (kb_view k) (look ws) n ≡ verdictOf (kb_view k) (look vs) n
-  unfolding verdictOf
+  verdict_same : (n : ℕ) → n < dominoes (kb_view k) → verdict_of (kb_view k) (look ws) n ≡ verdict_of (kb_view k) (look vs) n
+  unfolding verdict_of
   verdict_same n q = rw (e n q, defect-at_same (kb_view k) (look ws) (look vs) e n q)
 
-  says_same : (n : ℕ) → Dec (n < dominoes (kb_view k)) → strikeSays (kb k) n ws ≡ strikeSays (kb k) n vs
+  says_same : (n : ℕ) → Dec (n < dominoes (kb_view k)) → strike_says (kb k) n ws ≡ strike_says (kb k) n vs
   says_same n (yes q) =
-      strike-says k ws h n q ∙ ap (λ (x : Verdict). 0 ∷ 0 ∷ n ∷ verdictNumbers x) (verdict_same n q) ∙ flip (strike-says k vs l n q)
+      strike-says k ws h n q ∙ ap (λ (x : Verdict). 0 ∷ 0 ∷ n ∷ verdict_numbers x) (verdict_same n q) ∙ flip (strike-says k vs l n q)
   says_same n (no q) = strike-beyond k ws h n (omega arith) ∙ flip (strike-beyond k vs l n (omega arith))
 
   leaves_same : (n p : ℕ) → p < dominoes (kb_view k) → Dec (p ≡ n)
-      → look (strikeLeaves (kb k) n ws) p ≡ look (strikeLeaves (kb k) n vs) p
+      → look (strike_leaves (kb k) n ws) p ≡ look (strike_leaves (kb k) n vs) p
   leaves_same n p q (yes i) =
       let r : n < dominoes (kb_view k) = omega arith in
       let d : eqb (defect_at (kb_view k) (look ws) n) 0 ≡ eqb (defect_at (kb_view k) (look vs) n) 0 =
@@ -164,7 +164,7 @@ calls_are k (c ∷ cs) us h =
 pub calls_leave_lem : (k : Kb) (cs : List Call) (ws : List ℕ) → held (kb_view k) ≤ length ws
     → calls_leave (kb k) cs ws ≡ after (held (kb_view k)) (dominoes (kb_view k)) (initial (kb_view k)) (lacks (kb_view k)) cs ws
 calls_leave_lem k cs ws h =
-    ap (run_with (called (kb k)) cs) (open_leaves k ws h)
+    ap (run_with (called (kb k)) cs) (open_leaves_lem k ws h)
     ∙ calls_are k cs _ (omega (arith, written-long (held (kb_view k)) (dominoes (kb_view k)) (initial (kb_view k)) ws h))
 
 calls-long : (k : Kb) (cs : List Call) (us : List ℕ) → held (kb_view k) ≤ length us → length (run_with (called (kb k)) cs us) ≡ length us
@@ -175,9 +175,9 @@ calls-long k (c ∷ cs) us h =
 
 pub calls_leave_long : (k : Kb) (cs : List Call) (ws : List ℕ) → held (kb_view k) ≤ length ws → length (calls_leave (kb k) cs ws) ≡ length ws
 calls_leave_long k cs ws h =
-    let l : length (openLeaves (kb k) ws) ≡ length ws =
-    ap length (open_leaves k ws h) ∙ written-long (held (kb_view k)) (dominoes (kb_view k)) (initial (kb_view k)) ws h in
-    calls-long k cs (openLeaves (kb k) ws) (omega arith) ∙ l
+    let l : length (open_leaves (kb k) ws) ≡ length ws =
+    ap length (open_leaves_lem k ws h) ∙ written-long (held (kb_view k)) (dominoes (kb_view k)) (initial (kb_view k)) ws h in
+    calls-long k cs (open_leaves (kb k) ws) (omega arith) ∙ l
 
 -- ---- a list of calls
 
@@ -192,13 +192,13 @@ list_of_calls k cs ws t h =
     record {
       past = ap (drop (held v)) same ∙ d.past;
       keeps = λ p l u. subst (λ (us : List ℕ). T (look us p)) (flip same) (d.keeps p l
-          (T_of (ap (λ (us : List ℕ). look us p) (judge_leaves k ws h) ∙ written-look (held v) (dominoes v) (canon v) ws (words-room (dominoes v)) p l) u));
+          (T_of (ap (λ (us : List ℕ). look us p) (judge_leaves_lem k ws h) ∙ written-look (held v) (dominoes v) (canon v) ws (words-room (dominoes v)) p l) u));
       exact = λ r.
           ap (take (held v)) same
           ∙ d.exact (subst (λ (us : List ℕ). T (is_stable (dominoes v) (defective v) (look us))) same (words-stable v (calls_leave (kb k) cs ws) r))
-          ∙ flip (ap (take (held v)) (judge_leaves k ws h) ∙ written-front (held v) (dominoes v) (canon v) ws);
+          ∙ flip (ap (take (held v)) (judge_leaves_lem k ws h) ∙ written-front (held v) (dominoes v) (canon v) ws);
       ends = λ o r e l p.
-          let q : size (dominoes v) (initial v) ≡ o = ap (λ (l : List ℕ). get_or l 2 0) (flip (open_says k ws h) ∙ e) in
+          let q : size (dominoes v) (initial v) ≡ o = ap (λ (l : List ℕ). get_or l 2 0) (flip (open_says_lem k ws h) ∙ e) in
           subst (StableWords v) (flip same) (stable-words v a (d.ends r p (omega arith)));
     }
 

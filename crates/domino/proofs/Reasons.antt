@@ -21,35 +21,35 @@ use Rattle.semantics.specs.Conditions.{View, order, FirstFails, dominoes, initia
 use Rattle.semantics.specs.Views.{kb_view}
 use Rattle.semantics.proofs.Defects.{defect_le, defect-first, first-defect, defect_passes, passes_defect, defect-later, defective-is, lacks_monotone}
 use Rattle.domino.specs.declared.Verdict.TheVariants.{Absent, Struck, Kept}
-use Rattle.domino.specs.Answers.{verdictNumbers, verdictOf, openLeaves, strikeSays}
+use Rattle.domino.specs.Answers.{verdict_numbers, verdict_of, open_leaves, strike_says}
 use Rattle.domino.specs.Demanded.{StableWords, calls_leave}
 use Rattle.domino.specs.Reasons.{absent, struck, kept, Tells, fails_some, AsBefore, Resting}
-use Rattle.domino.proofs.WordsEnough.{open_leaves, strike-says, strike-beyond, strike-leaves, settle-leaves}
+use Rattle.domino.proofs.WordsEnough.{open_leaves_lem, strike-says, strike-beyond, strike-leaves, settle-leaves}
 use Rattle.domino.proofs.Demand1.{opened-settled}
 use Rattle.domino.proofs.Demand3.{calls_leave_lem, calls_leave_long}
 
 -- ---- the answer on a domino: `there` says that it is in the set, d is its defect, `none` that it has none
 
 abbrev answer : ℕ → Bool → Bool → ℕ → List ℕ
-answer n there none d = 0 ∷ 0 ∷ n ∷ verdictNumbers (cond there (cond none Kept (Struck d)) Absent)
+answer n there none d = 0 ∷ 0 ∷ n ∷ verdict_numbers (cond there (cond none Kept (Struck d)) Absent)
 
 abbrev verdict_in : List ℕ → ℕ
 verdict_in says = get_or says 3 0
 
 struck-answer : (n k : ℕ) (there none : Bool) (d : ℕ) → answer n there none d ≡ struck k n → (there ≡ true) × (none ≡ false) × (d ≡ k)
-unfolding verdictNumbers
+unfolding verdict_numbers
 struck-answer n k false none d e = absurd (omega (arith, ap verdict_in e))
 struck-answer n k true true d e = absurd (omega (arith, ap verdict_in e))
 struck-answer n k true false d e = (refl, refl, ap (λ (says : List ℕ). get_or says 4 0) e)
 
 absent-answer : (n : ℕ) (there none : Bool) (d : ℕ) → answer n there none d ≡ absent n → there ≡ false
-unfolding verdictNumbers
+unfolding verdict_numbers
 absent-answer n false none d e = refl
 absent-answer n true true d e = absurd (omega (arith, ap verdict_in e))
 absent-answer n true false d e = absurd (omega (arith, ap verdict_in e))
 
 kept-answer : (n : ℕ) (there none : Bool) (d : ℕ) → answer n there none d ≡ kept n → (there ≡ true) × (none ≡ true)
-unfolding verdictNumbers
+unfolding verdict_numbers
 kept-answer n false none d e = absurd (omega (arith, ap verdict_in e))
 kept-answer n true true d e = (refl, refl)
 kept-answer n true false d e = absurd (omega (arith, ap verdict_in e))
@@ -95,20 +95,20 @@ module _ (v : View) (S : Set) (n : ℕ) where
 
 module _ (k : Kb) (ws : List ℕ) (h : held (kb_view k) ≤ length ws) where
   says : (n : ℕ) → n < dominoes (kb_view k)
-      → strikeSays (kb k) n ws ≡ answer n (look ws n) (eqb (defect_at (kb_view k) (look ws) n) 0) (defect_at (kb_view k) (look ws) n)
-  unfolding verdictOf
+      → strike_says (kb k) n ws ≡ answer n (look ws n) (eqb (defect_at (kb_view k) (look ws) n) 0) (defect_at (kb_view k) (look ws) n)
+  unfolding verdict_of
   says n l = strike-says k ws h n l
 
   -- in the set, and with a defect
   says-struck : (n d : ℕ) → n < dominoes (kb_view k) → look ws n ≡ true → defect_at (kb_view k) (look ws) n ≡ d → 0 < d
-      → strikeSays (kb k) n ws ≡ struck d n
-  unfolding verdictNumbers
+      → strike_says (kb k) n ws ≡ struck d n
+  unfolding verdict_numbers
   says-struck n d l e f g =
       says n l ∙ ap (λ (b : Bool). answer n b (eqb (defect_at (kb_view k) (look ws) n) 0) (defect_at (kb_view k) (look ws) n)) e
       ∙ ap (λ (x : ℕ). answer n true (eqb x 0) x) f ∙ ap (λ (b : Bool). answer n true b d) (ne_eqb d 0 (λ q. omega arith))
 
   tells_of : (n : ℕ) → n < dominoes (kb_view k) → Tells (kb k) (kb_view k) ws n
-  unfolding verdictNumbers
+  unfolding verdict_numbers
   tells_of n l =
       let v : View = kb_view k in
       let d : ℕ = defect_at v (look ws) n in
@@ -130,7 +130,7 @@ module _ (k : Kb) (ws : List ℕ) (h : held (kb_view k) ≤ length ws) where
 
 -- a strike is told of a number below the number of dominoes
 told_below : (k : Kb) (ws : List ℕ) → held (kb_view k) ≤ length ws → (n i : ℕ)
-    → strikeSays (kb k) n ws ≡ struck i n → n < dominoes (kb_view k)
+    → strike_says (kb k) n ws ≡ struck i n → n < dominoes (kb_view k)
 told_below k ws h n i e = go (dec_lt n (dominoes (kb_view k)))
   where
     go : Dec (n < dominoes (kb_view k)) → n < dominoes (kb_view k)
@@ -145,8 +145,8 @@ test-is v = fun_ext (λ S. fun_ext (λ n. defective-is v S n))
 as_before : (k : Kb) (ws : List ℕ) → held (kb_view k) ≤ length ws → AsBefore (kb k) (kb_view k) ws
 as_before k ws h =
     let v : View = kb_view k in
-    let us : List ℕ = openLeaves (kb k) ws in
-    let long : held (kb_view k) ≤ length (openLeaves (kb k) ws) = omega (arith, calls_leave_long k [] ws h) in
+    let us : List ℕ = open_leaves (kb k) ws in
+    let long : held (kb_view k) ≤ length (open_leaves (kb k) ws) = omega (arith, calls_leave_long k [] ws h) in
     record {
       test = defective-is v;
       strikes = λ n. strike-leaves k ws h n ∙ ap (λ (f : Set → ℕ → Bool). strike_words (dominoes v) f n ws) (test-is v);
@@ -156,13 +156,13 @@ as_before k ws h =
           ∙ ap (λ (f : Set → ℕ → Bool). settle_words (held v) (dominoes v) f us) (test-is v);
       calls = λ cs.
           calls_leave_lem k cs ws h
-          ∙ ap₂ (λ (f : Set → ℕ → Bool) (us : List ℕ). run_with (act_words (held v) (dominoes v) f) cs us) (test-is v) (flip (open_leaves k ws h));
+          ∙ ap₂ (λ (f : Set → ℕ → Bool) (us : List ℕ). run_with (act_words (held v) (dominoes v) f) cs us) (test-is v) (flip (open_leaves_lem k ws h));
     }
 
 -- ---- at rest
 
 -- struck: in the set, with that defect
-told : (k : Kb) (ws : List ℕ) → held (kb_view k) ≤ length ws → (n i : ℕ) → strikeSays (kb k) n ws ≡ struck i n
+told : (k : Kb) (ws : List ℕ) → held (kb_view k) ≤ length ws → (n i : ℕ) → strike_says (kb k) n ws ≡ struck i n
     → (n < dominoes (kb_view k)) × (look ws n ≡ true) × (0 < i) × (defect_at (kb_view k) (look ws) n ≡ i)
 told k ws h n i e =
     let l : n < dominoes (kb_view k) = told_below k ws h n i e in

@@ -19,7 +19,7 @@ use Rattle.syntax.specs.Reading.{Kb, kb}
 use Rattle.semantics.specs.Conditions.{View, dominoes, initial, defective, defect_at, canon, held}
 use Rattle.semantics.specs.Views.{kb_view}
 use Rattle.semantics.proofs.Defects.{defective-is}
-use Rattle.domino.specs.Answers.{verdictNumbers, verdictOf, openSays, openLeaves, strikeSays, strikeLeaves, settleSays, settleLeaves, judgeSays, judgeLeaves}
+use Rattle.domino.specs.Answers.{verdict_numbers, verdict_of, open_says, open_leaves, strike_says, strike_leaves, settle_says, settle_leaves, judge_says, judge_leaves}
 use Rattle.domino.specs.Demanded.{StableWords}
 use Rattle.domino.proofs.OnSet.{says-enough, leaves-enough}
 
@@ -33,45 +33,45 @@ module _ (v : View) where
 -- ---- a sheet that is read, and words enough
 
 module _ (k : Kb) (ws : List ℕ) (enough : held (kb_view k) ≤ length ws) where
-  pub open_says : openSays (kb k) ws ≡ 0 ∷ 0 ∷ size (dominoes (kb_view k)) (initial (kb_view k)) ∷ []
-  unfolding openSays
-  open_says = says-enough _ ws k enough
+  pub open_says_lem : open_says (kb k) ws ≡ 0 ∷ 0 ∷ size (dominoes (kb_view k)) (initial (kb_view k)) ∷ []
+  unfolding open_says
+  open_says_lem = says-enough _ ws k enough
 
-  pub open_leaves : openLeaves (kb k) ws ≡ written (held (kb_view k)) (dominoes (kb_view k)) (initial (kb_view k)) ws
-  unfolding openLeaves
-  open_leaves = leaves-enough _ ws k enough
+  pub open_leaves_lem : open_leaves (kb k) ws ≡ written (held (kb_view k)) (dominoes (kb_view k)) (initial (kb_view k)) ws
+  unfolding open_leaves
+  open_leaves_lem = leaves-enough _ ws k enough
 
   pub strike-says : (n : ℕ) → n < dominoes (kb_view k)
-      → strikeSays (kb k) n ws ≡ 0 ∷ 0 ∷ n ∷ verdictNumbers (verdictOf (kb_view k) (look ws) n)
-  unfolding strikeSays
+      → strike_says (kb k) n ws ≡ 0 ∷ 0 ∷ n ∷ verdict_numbers (verdict_of (kb_view k) (look ws) n)
+  unfolding strike_says
   strike-says n h = rw (says-enough _ ws k enough, lt-ltb n (dominoes (kb_view k)) h)
 
-  pub strike-beyond : (n : ℕ) → dominoes (kb_view k) ≤ n → strikeSays (kb k) n ws ≡ 11 ∷ 0 ∷ []
-  unfolding strikeSays
+  pub strike-beyond : (n : ℕ) → dominoes (kb_view k) ≤ n → strike_says (kb k) n ws ≡ 11 ∷ 0 ∷ []
+  unfolding strike_says
   strike-beyond n h = rw (says-enough _ ws k enough, le-ltb n (dominoes (kb_view k)) h)
 
-  pub strike-leaves : (n : ℕ) → strikeLeaves (kb k) n ws ≡ strike_words (dominoes (kb_view k)) (defective (kb_view k)) n ws
-  unfolding strikeLeaves
+  pub strike-leaves : (n : ℕ) → strike_leaves (kb k) n ws ≡ strike_words (dominoes (kb_view k)) (defective (kb_view k)) n ws
+  unfolding strike_leaves
   strike-leaves n = leaves-enough _ ws k enough
 
-  pub settle-says : settleSays (kb k) ws
+  pub settle-says : settle_says (kb k) ws
       ≡ 0 ∷ 0 ∷ size (dominoes (kb_view k)) (settled (dominoes (kb_view k)) (defective (kb_view k)) (look ws)) ∷ []
-  unfolding settleSays
+  unfolding settle_says
   settle-says = says-enough _ ws k enough
 
-  pub settle-leaves : settleLeaves (kb k) ws ≡ settle_words (held (kb_view k)) (dominoes (kb_view k)) (defective (kb_view k)) ws
-  unfolding settleLeaves
+  pub settle-leaves : settle_leaves (kb k) ws ≡ settle_words (held (kb_view k)) (dominoes (kb_view k)) (defective (kb_view k)) ws
+  unfolding settle_leaves
   settle-leaves = leaves-enough _ ws k enough
 
-  pub judge_says : judgeSays (kb k) ws
+  pub judge_says_lem : judge_says (kb k) ws
       ≡ 0 ∷ 0 ∷ size (dominoes (kb_view k)) (initial (kb_view k)) ∷ size (dominoes (kb_view k)) (canon (kb_view k))
       ∷ cond (eqb (size (dominoes (kb_view k)) (canon (kb_view k))) 0) 0 1 ∷ []
-  unfolding judgeSays
-  judge_says = says-enough _ ws k enough
+  unfolding judge_says
+  judge_says_lem = says-enough _ ws k enough
 
-  pub judge_leaves : judgeLeaves (kb k) ws ≡ written (held (kb_view k)) (dominoes (kb_view k)) (canon (kb_view k)) ws
-  unfolding judgeLeaves
-  judge_leaves = leaves-enough _ ws k enough
+  pub judge_leaves_lem : judge_leaves (kb k) ws ≡ written (held (kb_view k)) (dominoes (kb_view k)) (canon (kb_view k)) ws
+  unfolding judge_leaves
+  judge_leaves_lem = leaves-enough _ ws k enough
 
 -- the ones in words that a set was written to are as many as it has members
 pub ones-left : (v : View) (D : Set) (ws us : List ℕ) → us ≡ written (held v) (dominoes v) D ws → T (are_words ws)

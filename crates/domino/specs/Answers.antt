@@ -18,101 +18,101 @@ use Rattle.domino.specs.declared.JudgeAnswer.{JudgeAnswer}
 use Rattle.domino.specs.declared.JudgeAnswer.TheVariants.{Refused as NotJudged, Judged}
 
 -- document 01's number and values for each case of an answer: the refusal's number (0 for none), its place, then the values
-unfoldable pub openNumbers : OpenAnswer → List ℕ
-openNumbers (Refused n p) = n ∷ p ∷ []
-openNumbers (Opened size) = 0 ∷ 0 ∷ size ∷ []
+unfoldable pub open_numbers : OpenAnswer → List ℕ
+open_numbers (Refused n p) = n ∷ p ∷ []
+open_numbers (Opened size) = 0 ∷ 0 ∷ size ∷ []
 
 -- a verdict's number, then the condition that a struck domino failed
-unfoldable pub verdictNumbers : Verdict → List ℕ
-verdictNumbers Absent = 0 ∷ []
-verdictNumbers (Struck condition) = 1 ∷ condition ∷ []
-verdictNumbers Kept = 2 ∷ []
+unfoldable pub verdict_numbers : Verdict → List ℕ
+verdict_numbers Absent = 0 ∷ []
+verdict_numbers (Struck condition) = 1 ∷ condition ∷ []
+verdict_numbers Kept = 2 ∷ []
 
-unfoldable pub strikeNumbers : StrikeAnswer → List ℕ
-strikeNumbers (NotStruck n p) = n ∷ p ∷ []
-strikeNumbers (Tried s) = 0 ∷ 0 ∷ s.number ∷ verdictNumbers s.verdict
+unfoldable pub strike_numbers : StrikeAnswer → List ℕ
+strike_numbers (NotStruck n p) = n ∷ p ∷ []
+strike_numbers (Tried s) = 0 ∷ 0 ∷ s.number ∷ verdict_numbers s.verdict
 
-unfoldable pub settleNumbers : SettleAnswer → List ℕ
-settleNumbers (NotSettled n p) = n ∷ p ∷ []
-settleNumbers (Settled survivors) = 0 ∷ 0 ∷ survivors ∷ []
+unfoldable pub settle_numbers : SettleAnswer → List ℕ
+settle_numbers (NotSettled n p) = n ∷ p ∷ []
+settle_numbers (Settled survivors) = 0 ∷ 0 ∷ survivors ∷ []
 
-unfoldable pub judgeNumbers : JudgeAnswer → List ℕ
-judgeNumbers (NotJudged n p) = n ∷ p ∷ []
-judgeNumbers (Judged opening survivors met) = 0 ∷ 0 ∷ opening ∷ survivors ∷ cond met 1 0 ∷ []
+unfoldable pub judge_numbers : JudgeAnswer → List ℕ
+judge_numbers (NotJudged n p) = n ∷ p ∷ []
+judge_numbers (Judged opening survivors met) = 0 ∷ 0 ∷ opening ∷ survivors ∷ cond met 1 0 ∷ []
 
 -- "10, set too short"
-abbrev pub isShort : Kb → List ℕ → Bool
-isShort k ws = ltb (length ws) (held (kb_view k))
+abbrev pub is_short : Kb → List ℕ → Bool
+is_short k ws = ltb (length ws) (held (kb_view k))
 
 -- A call on a set of so many words, of a sheet read as s: "refuses as read does, then 10, set too short"; else the call's own part.
 -- What a refusal comes to is `refuse`, of its number and place.
-unfoldable pub onSet : {A : Type 0} → (ℕ → ℕ → A) → (Kb → A) → Reading → ℕ → A
-onSet refuse own (refusal n p) words = refuse n p
-onSet refuse own (kb k) words = cond (ltb words (held (kb_view k))) (refuse 10 0) (own k)
+unfoldable pub on_set : {A : Type 0} → (ℕ → ℕ → A) → (Kb → A) → Reading → ℕ → A
+on_set refuse own (refusal n p) words = refuse n p
+on_set refuse own (kb k) words = cond (ltb words (held (kb_view k))) (refuse 10 0) (own k)
 
 -- the numbers it refuses with
-unfoldable pub isSetRefusal : ℕ → Bool
-isSetRefusal n = is_read_refusal n || eqb n 10
+unfoldable pub is_set_refusal : ℕ → Bool
+is_set_refusal n = is_read_refusal n || eqb n 10
 
 -- what such a call says: a refusal's number and place, or what the call says of the knowledge base and the words
-unfoldable pub saysOnSet : (Kb → List ℕ → List ℕ) → Reading → List ℕ → List ℕ
-saysOnSet own s ws = onSet (λ n p. n ∷ p ∷ []) (λ k. own k ws) s (length ws)
+unfoldable pub says_on_set : (Kb → List ℕ → List ℕ) → Reading → List ℕ → List ℕ
+says_on_set own s ws = on_set (λ n p. n ∷ p ∷ []) (λ k. own k ws) s (length ws)
 
 -- what it leaves: "A refusal writes nothing to any buffer"
-unfoldable pub leavesOnSet : (Kb → List ℕ → List ℕ) → Reading → List ℕ → List ℕ
-leavesOnSet own s ws = onSet (λ n p. ws) (λ k. own k ws) s (length ws)
+unfoldable pub leaves_on_set : (Kb → List ℕ → List ℕ) → Reading → List ℕ → List ℕ
+leaves_on_set own s ws = on_set (λ n p. ws) (λ k. own k ws) s (length ws)
 
 -- open: "It writes the opening set and answers its size."
-unfoldable pub openSays : Reading → List ℕ → List ℕ
-openSays = saysOnSet (λ k ws. 0 ∷ 0 ∷ size (dominoes (kb_view k)) (initial (kb_view k)) ∷ [])
+unfoldable pub open_says : Reading → List ℕ → List ℕ
+open_says = says_on_set (λ k ws. 0 ∷ 0 ∷ size (dominoes (kb_view k)) (initial (kb_view k)) ∷ [])
 
-unfoldable pub openLeaves : Reading → List ℕ → List ℕ
-openLeaves = leavesOnSet (λ k ws. written (held (kb_view k)) (dominoes (kb_view k)) (initial (kb_view k)) ws)
+unfoldable pub open_leaves : Reading → List ℕ → List ℕ
+open_leaves = leaves_on_set (λ k ws. written (held (kb_view k)) (dominoes (kb_view k)) (initial (kb_view k)) ws)
 
 -- strike: "Absent, not in the set; Struck, in it and loose, and now out; Kept, in it and not loose"; 02, N2: the number "of the
 -- first condition that fails in 01's order, and Struck carries it"
-unfoldable pub verdictOf : View → Set → ℕ → Verdict
-verdictOf v D n = cond (D n) (cond (eqb (defect_at v D n) 0) Kept (Struck (defect_at v D n))) Absent
+unfoldable pub verdict_of : View → Set → ℕ → Verdict
+verdict_of v D n = cond (D n) (cond (eqb (defect_at v D n) 0) Kept (Struck (defect_at v D n))) Absent
 
 -- strike "refuses as read does, then 10, then 11, number not below 2^(2c+2L)"
-unfoldable pub isStrikeRefusal : ℕ → Bool
-isStrikeRefusal n = isSetRefusal n || eqb n 11
+unfoldable pub is_strike_refusal : ℕ → Bool
+is_strike_refusal n = is_set_refusal n || eqb n 11
 
-unfoldable pub strikeSays : Reading → ℕ → List ℕ → List ℕ
-strikeSays s n = saysOnSet (λ k ws. cond (ltb n (dominoes (kb_view k)))
-    (0 ∷ 0 ∷ n ∷ verdictNumbers (verdictOf (kb_view k) (look ws) n)) (11 ∷ 0 ∷ [])) s
+unfoldable pub strike_says : Reading → ℕ → List ℕ → List ℕ
+strike_says s n = says_on_set (λ k ws. cond (ltb n (dominoes (kb_view k)))
+    (0 ∷ 0 ∷ n ∷ verdict_numbers (verdict_of (kb_view k) (look ws) n)) (11 ∷ 0 ∷ [])) s
 
-unfoldable pub strikeLeaves : Reading → ℕ → List ℕ → List ℕ
-strikeLeaves s n = leavesOnSet (λ k ws. strike_words (dominoes (kb_view k)) (defective (kb_view k)) n ws) s
+unfoldable pub strike_leaves : Reading → ℕ → List ℕ → List ℕ
+strike_leaves s n = leaves_on_set (λ k ws. strike_words (dominoes (kb_view k)) (defective (kb_view k)) n ws) s
 
 -- settle: "It leaves the largest subset of the set that has nothing loose."
-unfoldable pub settleSays : Reading → List ℕ → List ℕ
-settleSays = saysOnSet (λ k ws. 0 ∷ 0 ∷ size (dominoes (kb_view k)) (settled (dominoes (kb_view k)) (defective (kb_view k)) (look ws)) ∷ [])
+unfoldable pub settle_says : Reading → List ℕ → List ℕ
+settle_says = says_on_set (λ k ws. 0 ∷ 0 ∷ size (dominoes (kb_view k)) (settled (dominoes (kb_view k)) (defective (kb_view k)) (look ws)) ∷ [])
 
-unfoldable pub settleLeaves : Reading → List ℕ → List ℕ
-settleLeaves = leavesOnSet (λ k ws. settle_words (held (kb_view k)) (dominoes (kb_view k)) (defective (kb_view k)) ws)
+unfoldable pub settle_leaves : Reading → List ℕ → List ℕ
+settle_leaves = leaves_on_set (λ k ws. settle_words (held (kb_view k)) (dominoes (kb_view k)) (defective (kb_view k)) ws)
 
 -- judge: "It opens and settles, and answers the opening size, the survivor count, and met or unmet." 02, N5: "13 is withdrawn"
-unfoldable pub judgeSays : Reading → List ℕ → List ℕ
-judgeSays = saysOnSet (λ k ws. 0 ∷ 0 ∷ size (dominoes (kb_view k)) (initial (kb_view k)) ∷ size (dominoes (kb_view k)) (canon (kb_view k))
+unfoldable pub judge_says : Reading → List ℕ → List ℕ
+judge_says = says_on_set (λ k ws. 0 ∷ 0 ∷ size (dominoes (kb_view k)) (initial (kb_view k)) ∷ size (dominoes (kb_view k)) (canon (kb_view k))
     ∷ cond (eqb (size (dominoes (kb_view k)) (canon (kb_view k))) 0) 0 1 ∷ [])
 
-unfoldable pub judgeLeaves : Reading → List ℕ → List ℕ
-judgeLeaves = leavesOnSet (λ k ws. written (held (kb_view k)) (dominoes (kb_view k)) (canon (kb_view k)) ws)
+unfoldable pub judge_leaves : Reading → List ℕ → List ℕ
+judge_leaves = leaves_on_set (λ k ws. written (held (kb_view k)) (dominoes (kb_view k)) (canon (kb_view k)) ws)
 
 -- the contracts: for a sheet read as s
 pub record Opens (s : Reading) (before after : List ℕ) (r : OpenAnswer) : Type 0 where
-  pub answer : openNumbers r ≡ openSays s before
-  pub set : after ≡ openLeaves s before
+  pub answer : open_numbers r ≡ open_says s before
+  pub set : after ≡ open_leaves s before
 
 pub record Strikes (s : Reading) (n : ℕ) (before after : List ℕ) (r : StrikeAnswer) : Type 0 where
-  pub answer : strikeNumbers r ≡ strikeSays s n before
-  pub set : after ≡ strikeLeaves s n before
+  pub answer : strike_numbers r ≡ strike_says s n before
+  pub set : after ≡ strike_leaves s n before
 
 pub record Settles (s : Reading) (before after : List ℕ) (r : SettleAnswer) : Type 0 where
-  pub answer : settleNumbers r ≡ settleSays s before
-  pub set : after ≡ settleLeaves s before
+  pub answer : settle_numbers r ≡ settle_says s before
+  pub set : after ≡ settle_leaves s before
 
 pub record Judges (s : Reading) (before after : List ℕ) (r : JudgeAnswer) : Type 0 where
-  pub answer : judgeNumbers r ≡ judgeSays s before
-  pub set : after ≡ judgeLeaves s before
+  pub answer : judge_numbers r ≡ judge_says s before
+  pub set : after ≡ judge_leaves s before

@@ -13,7 +13,7 @@ use Rattle.semantics.specs.Views.{kb_view}
 use Rattle.semantics.specs.Projection.{projection}
 use Rattle.domino.specs.declared.JudgeAnswer.{JudgeAnswer}
 use Rattle.domino.specs.declared.JudgeAnswer.TheVariants.{Refused, Judged}
-use Rattle.domino.specs.Answers.{isSetRefusal}
+use Rattle.domino.specs.Answers.{is_set_refusal}
 
 -- judge refuses with a number n and a place p
 pub record RefusedRightly (sheet before after : List ℕ) (n p : ℕ) : Type 0 where
@@ -21,7 +21,7 @@ pub record RefusedRightly (sheet before after : List ℕ) (n p : ℕ) : Type 0 w
   pub why : (read_kb limit sheet ≡ refusal n p)
       ⊎ ((k : Kb) × (read_kb limit sheet ≡ kb k) × (length before < held (kb_view k)) × (n ≡ 10) × (p ≡ 0))
   -- "the call comes back with the refusal number and place that document 01 fixes": one of the numbers of a call on a set,
-  pub among : isSetRefusal n ≡ true
+  pub among : is_set_refusal n ≡ true
   -- with its place where a record starts, at a reference's byte, or 0
   pub placed : Placed sheet n p
   -- "and every set and list is untouched"

@@ -5,10 +5,10 @@ use Rattle.bitset.specs.Bits.{words_for_lem}
 use Rattle.elimination.specs.Calls.{Call, strike as call, settle}
 use Rattle.syntax.specs.Concepts.{named, top_c, bottom_c, forall_c}
 use Rattle.syntax.specs.Reading.{Kb, read_kb}
-use Rattle.syntax.specs.Answers.{limit, readSays}
+use Rattle.syntax.specs.Answers.{limit, read_says}
 use Rattle.syntax.specs.Examples.{s1, s2, s3, s4, s5, s6, thrice}
 use Rattle.semantics.specs.Dominoes.{total}
-use Rattle.domino.specs.Answers.{openSays, openLeaves, strikeSays, strikeLeaves, settleSays, judgeSays, judgeLeaves}
+use Rattle.domino.specs.Answers.{open_says, open_leaves, strike_says, strike_leaves, settle_says, judge_says, judge_leaves}
 
 -- a sheet and what read says of it; words lent; what open says and leaves; what settle says then; what judge says and leaves
 pub record Row : Type 0 where
@@ -28,8 +28,8 @@ row s r l o p t j q = record { sheet = s; reads = r; lent = l; opens = o; opened
 abbrev pub answered : Row → Row
 answered r =
     let s = read_kb limit r.sheet in
-    row r.sheet (readSays s) r.lent (openSays s r.lent) (openLeaves s r.lent) (settleSays s (openLeaves s r.lent))
-    (judgeSays s r.lent) (judgeLeaves s r.lent)
+    row r.sheet (read_says s) r.lent (open_says s r.lent) (open_leaves s r.lent) (settle_says s (open_leaves s r.lent))
+    (judge_says s r.lent) (judge_leaves s r.lent)
 
 -- words, and one more that no call may touch
 abbrev pub lend : List ℕ → List ℕ
@@ -119,7 +119,7 @@ strike s l n m q = record { sheet = s; words = l; number = n; says = m; leaves =
 abbrev pub tried : Strike → Strike
 tried r =
     let s = read_kb limit r.sheet in
-    strike r.sheet r.words r.number (strikeSays s r.number r.words) (strikeLeaves s r.number r.words)
+    strike r.sheet r.words r.number (strike_says s r.number r.words) (strike_leaves s r.number r.words)
 
 -- everything is some k0 t0 or only k0 nothing
 abbrev some_or_only : List ℕ

@@ -12,7 +12,7 @@ use Rattle.records.specs.Scan.{record_at_lem}
 use Rattle.syntax.specs.Concepts.{Role, role_below}
 use Rattle.syntax.specs.Normal.{Tag}
 use Rattle.syntax.specs.Flatten.{Atom, everything, nothing, name_a, Filler, atomic, fresh, Part, name_p, fresh_p, exists_p, forall_p, same_role_lem, same_filler, like_exists, like_forall, alike, part_at}
-use Rattle.syntax.specs.Answers.{oddNo}
+use Rattle.syntax.specs.Answers.{odd_no}
 use Rattle.syntax.specs.Parts.{kind_of}
 use Rattle.flattening.specs.PartTable.{AtomIs, part_word_lem, filler_word, FillerAt, Restricts, Stands, Stood, restriction}
 use Rattle.flattening.specs.AlikeParts.{Told, Sought, FirstAlike}
@@ -69,9 +69,9 @@ also false b e = refl
 
 module _ (es : List Entry) (k x : ℕ) (g : Tag) (u : Role) (a : Atom) (n : ℕ) (i : AtomIs (some a) n) where
   -- a restriction by its word: another filler, or this filler and a role
-  module _ (kind : ℕ) (h : Tag) (v : Role) (d : Filler) (kk : kind < 4) (xx : x ≡ part_word_lem kind (oddNo h) h.source (filler_word d)) (r : Restricts es k h v d) where
+  module _ (kind : ℕ) (h : Tag) (v : Role) (d : Filler) (kk : kind < 4) (xx : x ≡ part_word_lem kind (odd_no h) h.source (filler_word d)) (r : Restricts es k h v d) where
     code : x / 2048 ≡ filler_word d
-    code = word-filler x kind (oddNo h) h.source (filler_word d) xx kk (flag-low h.odd) r.byte
+    code = word-filler x kind (odd_no h) h.source (filler_word d) xx kk (flag-low h.odd) r.byte
 
     other : (x / 2048 ≡ n → ⊥) → false ≡ same_role_lem u v && same_filler (atomic a) d
     other m = unless (same_role_lem u v) (same_filler (atomic a) d) (λ e. m (code ∙ is-filler a n i d (filler_same a d e)))
@@ -79,7 +79,7 @@ module _ (es : List Entry) (k x : ℕ) (g : Tag) (u : Role) (a : Atom) (n : ℕ)
     this : (b : Bool) → x / 2048 ≡ n → b ≡ same_role_lem u (role_below es (x / 8 % 256) (record_at_lem es (x / 8 % 256)).first) →
         b ≡ same_role_lem u v && same_filler (atomic a) d
     this b e s =
-        let o : x / 8 % 256 ≡ h.source = word_number x kind (oddNo h) h.source (filler_word d) xx kk (flag-low h.odd) r.byte in
+        let o : x / 8 % 256 ≡ h.source = word_number x kind (odd_no h) h.source (filler_word d) xx kk (flag-low h.odd) r.byte in
         let w : v ≡ role_below es (x / 8 % 256) (record_at_lem es (x / 8 % 256)).first = r.role ∙ rw o in
         (rw (← w) at s) ∙ also (same_role_lem u v) (same_filler (atomic a) d) (same_filler_lem a d (filler-is a n i k d r.filler (sym code ∙ e)))
 

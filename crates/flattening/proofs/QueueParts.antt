@@ -14,7 +14,7 @@ use Rattle.syntax.specs.Concepts.{nodes_of, axioms_of, concept_below}
 use Rattle.syntax.specs.Normal.{Nf, or_n, plain, negated, axiom_nf}
 use Rattle.syntax.specs.Flatten.{Part, name_p, fresh_p, exists_p, forall_p, Flat, Pending, whole, guarded, walk_pending_by, shared, name_parts_lem, pendings, flatten, part_at}
 use Rattle.flattening.specs.Order.{through, turn_of, turns_from, axiom_turn}
-use Rattle.syntax.specs.Answers.{oddNo}
+use Rattle.syntax.specs.Answers.{odd_no}
 use Rattle.syntax.specs.Parts.{kind_of}
 use Rattle.records.specs.RecordTable.{flag}
 use Rattle.flattening.specs.PartTable.{nf_below, part_word_lem, Stands, Pushed, Held}
@@ -61,8 +61,8 @@ module _ (es : List Entry) (j x : ℕ) where
   unfolding turn_of kind_of
   turn-fresh n odd (name_p t) l s h = absurd (omega (arith, stand-kind es j x (name_p t) s))
   turn-fresh n odd (fresh_p g c) l s h =
-      let f = word_number x 1 (oddNo g) g.filler 0 s.0 (omega arith) (flag-low g.odd) s.1 in
-      let o : g.odd ≡ odd = flag_same g.odd odd (omega (arith, word-odd x 1 (oddNo g) g.filler 0 s.0 (omega arith) (flag-low g.odd), flag-low odd)) in
+      let f = word_number x 1 (odd_no g) g.filler 0 s.0 (omega arith) (flag-low g.odd) s.1 in
+      let o : g.odd ≡ odd = flag_same g.odd odd (omega (arith, word-odd x 1 (odd_no g) g.filler 0 s.0 (omega arith) (flag-low g.odd), flag-low odd)) in
       ap (λ (d : Nf). guarded j d ∷ []) (s.2 ∙ rw (o, f) (nf_same odd es (length es) n g.filler (concept-all es n g.filler l)))
   turn-fresh n odd (exists_p g u f) l s h = absurd (omega (arith, stand-kind es j x (exists_p g u f) s))
   turn-fresh n odd (forall_p g u f) l s h = absurd (omega (arith, stand-kind es j x (forall_p g u f) s))

@@ -6,7 +6,7 @@ use Rattle.records.specs.Scan.{record_at_lem}
 use Rattle.syntax.specs.Concepts.{Role, named, inverse, not_r, and_r, or_r, nodes_of, axioms_of, concept_below, role_below}
 use Rattle.syntax.specs.Normal.{Tag, Nf, plain, negated}
 use Rattle.syntax.specs.Flatten.{Atom, everything, nothing, name_a, Filler, atomic, fresh, Part, name_p, fresh_p, exists_p, forall_p, part_at, flatten}
-use Rattle.syntax.specs.Answers.{oddNo}
+use Rattle.syntax.specs.Answers.{odd_no}
 use Rattle.syntax.specs.Parts.{everything_no, nothing_no, fresh_no}
 
 -- the role that a record of kind 16 to 20 makes of those below it
@@ -63,9 +63,9 @@ pub record Restricts (es : List Entry) (k : ℕ) (g : Tag) (u : Role) (f : Fille
 -- the word x stands for part k
 abbrev pub Stands : List Entry → ℕ → ℕ → Part → Type 0
 Stands es k x (name_p t) = (x ≡ part_word_lem 0 0 t 0) × (t < 256)
-Stands es k x (fresh_p g c) = (x ≡ part_word_lem 1 (oddNo g) g.filler 0) × (g.filler < 256) × (c ≡ nf_below g.odd es (length es) g.filler)
-Stands es k x (exists_p g u f) = (x ≡ part_word_lem 2 (oddNo g) g.source (filler_word f)) × Restricts es k g u f
-Stands es k x (forall_p g u f) = (x ≡ part_word_lem 3 (oddNo g) g.source (filler_word f)) × Restricts es k g u f
+Stands es k x (fresh_p g c) = (x ≡ part_word_lem 1 (odd_no g) g.filler 0) × (g.filler < 256) × (c ≡ nf_below g.odd es (length es) g.filler)
+Stands es k x (exists_p g u f) = (x ≡ part_word_lem 2 (odd_no g) g.source (filler_word f)) × Restricts es k g u f
+Stands es k x (forall_p g u f) = (x ≡ part_word_lem 3 (odd_no g) g.source (filler_word f)) × Restricts es k g u f
 
 -- the words of a table stand for a list of parts
 abbrev pub Stood : List Entry → List ℕ → List Part → Type 0

@@ -4,7 +4,7 @@ ghost use mathlib.Core.Path.{◌≡◌};
 ghost use mathlib.Core.List.{List, ◌++◌, ◌∷◌, []};
 ghost use Prim.Native.Nat.{ℕ, ◌+◌, ◌-◌, ◌≤◌, ◌<◌};
 ghost use lib.ListN.{length, drop, set};
-ghost use Rattle.owl_import.specs.Grammar.{wrong_no, opening as openingOf, closing as closingOf, role as roleOf, concept as conceptOf, axioms as axioms_of};
+ghost use Rattle.owl_import.specs.Grammar.{wrong_no, opening as opening_of, closing as closing_of, role as role_of, concept as concept_of, axioms as axioms_of};
 ghost use Rattle.syntax.specs.Laid.{Rec, rec};
 ghost use Rattle.owl_import.specs.RecordsOf.{last_of, put_role, put_concept, put_axioms};
 ghost use Rattle.owl_import.specs.Steps.{Sane, Moves, Stored, Ran, Same, Grows, Adds, AxiomRead, AxiomsRead, refused_by, begun_by, moved_to, put_by, code_of, number_of, wrong_code};
@@ -122,7 +122,7 @@ fn wrong(s: Step, code: u8, place: usize) -> Step
 
 fn opening(text: &[u8], s: Step) -> Step
     requires { Sane text.now s }
-    ensures { Moves text.now s result × Ran text.now (openingOf s.room (drop s.at text.now)) (λ _. Same s result) result }
+    ensures { Moves text.now s result × Ran text.now (opening_of s.room (drop s.at text.now)) (λ _. Same s result) result }
 {
     let at = s.at;
     let t = next_token(text, at);
@@ -136,7 +136,7 @@ fn opening(text: &[u8], s: Step) -> Step
 
 fn closing(text: &[u8], s: Step) -> Step
     requires { Sane text.now s }
-    ensures { Moves text.now s result × Ran text.now (closingOf s.room (drop s.at text.now)) (λ _. Same s result) result }
+    ensures { Moves text.now s result × Ran text.now (closing_of s.room (drop s.at text.now)) (λ _. Same s result) result }
 {
     let at = s.at;
     let t = next_token(text, at);
@@ -189,7 +189,7 @@ fn finish(
     body: usize,
 ) -> Step
     requires { Sane text.now s × (s.count ≤ 254) × (body ≤ 2) }
-    ensures { Grows text.now s result × Ran text.now (closingOf s.room (drop s.at text.now)) (λ _. Adds kind first second body s result buffer.old buffer.new) result }
+    ensures { Grows text.now s result × Ran text.now (closing_of s.room (drop s.at text.now)) (λ _. Adds kind first second body s result buffer.old buffer.new) result }
 {
     let e = closing(text, s);
     if e.fault != 0 {
@@ -201,7 +201,7 @@ fn finish(
 // A role and its record.
 fn role(text: &[u8], s: Step, buffer: &mut [u8; 765]) -> Step
     requires { Sane text.now s }
-    ensures { Moves text.now s result × ((rs : List Rec) → Stored rs s buffer.old → Ran text.now (roleOf s.room (drop s.at text.now)) (λ u. Stored (put_role rs u) result buffer.new) result) }
+    ensures { Moves text.now s result × ((rs : List Rec) → Stored rs s buffer.old → Ran text.now (role_of s.room (drop s.at text.now)) (λ u. Stored (put_role rs u) result buffer.new) result) }
 {
     let at = s.at;
     let t = next_token(text, at);
@@ -243,7 +243,7 @@ fn role(text: &[u8], s: Step, buffer: &mut [u8; 765]) -> Step
 // A concept and its records.
 fn concept(text: &[u8], s: Step, buffer: &mut [u8; 765]) -> Step
     requires { Sane text.now s }
-    ensures { Moves text.now s result × ((deep : ℕ) (rs : List Rec) → s.room < deep → Stored rs s buffer.old → Ran text.now (conceptOf deep s.room (drop s.at text.now)) (λ c. Stored (put_concept rs c) result buffer.new) result) }
+    ensures { Moves text.now s result × ((deep : ℕ) (rs : List Rec) → s.room < deep → Stored rs s buffer.old → Ran text.now (concept_of deep s.room (drop s.at text.now)) (λ c. Stored (put_concept rs c) result buffer.new) result) }
 {
     let at = s.at;
     let t = next_token(text, at);

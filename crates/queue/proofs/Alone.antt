@@ -11,7 +11,7 @@ use borrow.Author.Tests.{eqb-true, eqb-false}
 use Rattle.syntax.specs.Reading.{read_kb}
 use Rattle.syntax.specs.Answers.{limit}
 use Rattle.domino.specs.declared.JudgeAnswer.{JudgeAnswer}
-use Rattle.domino.specs.Answers.{judgeNumbers, judgeSays}
+use Rattle.domino.specs.Answers.{judge_numbers, judge_says}
 use Rattle.domino.proofs.Judged.{judge_by-length, Forms, judge_forms}
 use Rattle.report.proofs.Worked.{set4096, many}
 use Rattle.queue.specs.declared.slots.SlotAnswer.{SlotAnswer}
@@ -19,8 +19,8 @@ use Rattle.queue.specs.declared.slots.SlotAnswer.TheVariants.{Met, Unmet, Refuse
 use Rattle.queue.specs.Queue.{answer_of, alone, length_in, sheet_in, slot_says, survivors_in}
 
 -- with 4,096 words, whatever they hold, judge says what judging the sheet alone says
-pub alone-judged : (sheet ws : List ℕ) (r : JudgeAnswer) → length ws ≡ 4096 → judgeNumbers r ≡ judgeSays (read_kb limit sheet) ws
-    → answer_of (judgeNumbers r) ≡ alone sheet
+pub alone-judged : (sheet ws : List ℕ) (r : JudgeAnswer) → length ws ≡ 4096 → judge_numbers r ≡ judge_says (read_kb limit sheet) ws
+    → answer_of (judge_numbers r) ≡ alone sheet
 unfolding alone
 alone-judged sheet ws r h e = ap answer_of (e ∙ judge_by-length (read_kb limit sheet) ws set4096 (h ∙ sym many))
 
@@ -44,7 +44,7 @@ cases says words w (inr (o, n, e, h)) = rw e (of_count o n (omega arith))
 
 pub alone_cases : (sheet : List ℕ) → Cases (alone sheet)
 unfolding alone
-alone_cases sheet = cases (judgeSays (read_kb limit sheet) set4096) (length set4096) many (judge_forms (read_kb limit sheet) set4096)
+alone_cases sheet = cases (judge_says (read_kb limit sheet) set4096) (length set4096) many (judge_forms (read_kb limit sheet) set4096)
 
 few : (a : SlotAnswer) → Cases a → survivors_in a ≤ 262144
 unfolding survivors_in

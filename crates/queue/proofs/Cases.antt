@@ -10,7 +10,7 @@ use Rattle.syntax.specs.Reading.{read_kb}
 use Rattle.syntax.specs.Answers.{limit}
 use Rattle.domino.specs.declared.JudgeAnswer.{JudgeAnswer}
 use Rattle.domino.specs.declared.JudgeAnswer.TheVariants.{Refused as NotJudged, Judged}
-use Rattle.domino.specs.Answers.{judgeNumbers, Judges}
+use Rattle.domino.specs.Answers.{judge_numbers, Judges}
 use Rattle.queue.specs.declared.slots.SlotAnswer.{SlotAnswer}
 use Rattle.queue.specs.declared.slots.SlotAnswer.TheVariants.{Met, Unmet, Refused}
 use Rattle.queue.specs.declared.totals.Totals.{Totals}
@@ -22,21 +22,21 @@ use Rattle.queue.proofs.Alone.{alone-judged}
 
 module _ (sheet before after : List ℕ) (j : JudgeAnswer) (many : length before ≡ 4096)
     (says : Judges (read_kb limit sheet) before after j) where
-  case : (r : SlotAnswer) → answer_of (judgeNumbers j) ≡ r → JudgesAlone sheet before after r
+  case : (r : SlotAnswer) → answer_of (judge_numbers j) ≡ r → JudgesAlone sheet before after r
   case r e = record { answer = sym e ∙ alone-judged sheet before j many says.answer; set = says.set }
 
   pub alone-refused : (n p : ℕ) → j ≡ NotJudged n p → JudgesAlone sheet before after (Refused n)
-  unfolding answer_of judgeNumbers
-  alone-refused n p e = case (Refused n) (ap (λ (a : JudgeAnswer). answer_of (judgeNumbers a)) e)
+  unfolding answer_of judge_numbers
+  alone-refused n p e = case (Refused n) (ap (λ (a : JudgeAnswer). answer_of (judge_numbers a)) e)
 
   pub alone-met : (o s : ℕ) (met : Bool) → j ≡ Judged o s met → met ≡ true → JudgesAlone sheet before after (Met s)
-  unfolding answer_of judgeNumbers
-  alone-met o s true e h = case (Met s) (ap (λ (a : JudgeAnswer). answer_of (judgeNumbers a)) e)
+  unfolding answer_of judge_numbers
+  alone-met o s true e h = case (Met s) (ap (λ (a : JudgeAnswer). answer_of (judge_numbers a)) e)
   alone-met o s false e h = absurd (false≢true h)
 
   pub alone-unmet : (o s : ℕ) (met : Bool) → j ≡ Judged o s met → met ≡ false → JudgesAlone sheet before after (Unmet s)
-  unfolding answer_of judgeNumbers
-  alone-unmet o s false e h = case (Unmet s) (ap (λ (a : JudgeAnswer). answer_of (judgeNumbers a)) e)
+  unfolding answer_of judge_numbers
+  alone-unmet o s false e h = case (Unmet s) (ap (λ (a : JudgeAnswer). answer_of (judge_numbers a)) e)
   alone-unmet o s true e h = absurd (false≢true (sym h))
 
 -- ---- one answer more

@@ -9,7 +9,7 @@ use borrow.Author.Tests.{le-ltb}
 use Rattle.syntax.specs.Reading.{read_kb}
 use Rattle.syntax.specs.Answers.{limit}
 use Rattle.syntax.specs.Examples.{s1, s2}
-use Rattle.domino.specs.Answers.{judgeSays}
+use Rattle.domino.specs.Answers.{judge_says}
 use Rattle.domino.proofs.Worked.{rows_right}
 use Rattle.report.specs.Text.{text, decimal_in, decimal}
 use Rattle.domino.proofs.Judged.{more_words}
@@ -68,7 +68,7 @@ sheets-printed sheets f h =
 -- ---- judging S1 and S2 with 4,096 words
 
 -- what judge says with these words, as an answer
-alone-is : (sheet : List ℕ) (o s m : ℕ) → judgeSays (read_kb limit sheet) lent ≡ 0 ∷ 0 ∷ o ∷ s ∷ m ∷ []
+alone-is : (sheet : List ℕ) (o s m : ℕ) → judge_says (read_kb limit sheet) lent ≡ 0 ∷ 0 ∷ o ∷ s ∷ m ∷ []
     → alone sheet ≡ answer_of (0 ∷ 0 ∷ o ∷ s ∷ m ∷ [])
 unfolding alone
 alone-is sheet o s m judges =

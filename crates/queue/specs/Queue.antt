@@ -3,7 +3,7 @@ use Rattle.std.specs.Prelude.{ℕ, zero, suc, ◌+◌, ◌-◌, ◌*◌, ◌/◌
 use Rattle.syntax.specs.Bounds.{All}
 use Rattle.syntax.specs.Reading.{read_kb}
 use Rattle.syntax.specs.Answers.{limit}
-use Rattle.domino.specs.Answers.{judgeSays}
+use Rattle.domino.specs.Answers.{judge_says}
 use Rattle.queue.specs.declared.slots.SlotAnswer.{SlotAnswer}
 use Rattle.queue.specs.declared.slots.SlotAnswer.TheVariants.{Met, Unmet, Refused}
 use Rattle.queue.specs.declared.totals.Totals.{Totals}
@@ -17,7 +17,7 @@ answer_of says =
 
 -- "what judging that sheet alone with 4,096 words says"
 unfoldable pub alone : List ℕ → SlotAnswer
-alone sheet = answer_of (judgeSays (read_kb limit sheet) (replicate 4096 0))
+alone sheet = answer_of (judge_says (read_kb limit sheet) (replicate 4096 0))
 
 -- a slot's 767 bytes: "length, two bytes, low first, then 765 bytes of which that many are the sheet"
 unfoldable pub length_in : List ℕ → ℕ

@@ -7,7 +7,7 @@ use Rattle.console.specs.Output.{handed}
 use Rattle.report.specs.Text.{Puts}
 use Rattle.syntax.specs.Reading.{read_kb}
 use Rattle.syntax.specs.Answers.{limit}
-use Rattle.domino.specs.Answers.{judgeLeaves}
+use Rattle.domino.specs.Answers.{judge_leaves}
 use Rattle.queue.specs.declared.slots.SlotAnswer.{SlotAnswer}
 use Rattle.queue.specs.declared.totals.Totals.{Totals}
 use Rattle.queue.specs.declared.steps.Stepped.{Stepped}
@@ -17,7 +17,7 @@ use Rattle.queue.specs.Lines.{slot_line, last_line, most}
 
 -- what a slot leaves in the lent words: what judge leaves for its sheet
 unfoldable pub slot_leaves : List ℕ → List ℕ → List ℕ
-slot_leaves slot ws = cond (ltb 765 (length_in slot)) ws (judgeLeaves (read_kb limit (sheet_in slot)) ws)
+slot_leaves slot ws = cond (ltb 765 (length_in slot)) ws (judge_leaves (read_kb limit (sheet_in slot)) ws)
 
 -- totals with one answer more
 unfoldable pub added : Totals → SlotAnswer → Totals
@@ -99,7 +99,7 @@ ReadsStep sheets (Got n) buffer = IsPrefixLen n buffer × (n ≤ wanted sheets (
 
 pub record JudgesAlone (sheet before after : List ℕ) (r : SlotAnswer) : Type 0 where
   pub answer : r ≡ alone sheet
-  pub set : after ≡ judgeLeaves (read_kb limit sheet) before
+  pub set : after ≡ judge_leaves (read_kb limit sheet) before
 
 pub record JudgesSlot (slot before after : List ℕ) (r : SlotAnswer) : Type 0 where
   pub answer : r ≡ slot_says slot

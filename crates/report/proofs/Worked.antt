@@ -9,12 +9,12 @@ use native.Mathlib.Omega.{arith}
 use lib.ListN.{length, get_or, replicate, length-replicate}
 use borrow.Author.Tests.{lt-ltb, le-ltb}
 use Rattle.syntax.specs.Reading.{Kb, Reading, refusal, kb, parts_of, read_kb}
-use Rattle.syntax.specs.Answers.{limit, readSays}
+use Rattle.syntax.specs.Answers.{limit, read_says}
 use Rattle.syntax.specs.Examples.{Row as ReadRow, s1, s2}
 use Rattle.syntax.proofs.Worked.{rows_right as reads-right}
 use Rattle.semantics.specs.Views.{kb_view}
 use Rattle.semantics.specs.Conditions.{held}
-use Rattle.domino.specs.Answers.{isShort, judgeSays}
+use Rattle.domino.specs.Answers.{is_short, judge_says}
 use Rattle.domino.specs.Examples.{Row}
 use Rattle.domino.proofs.Judged.{more_words, judge_short}
 use Rattle.domino.proofs.Worked.{rows_right}
@@ -40,8 +40,8 @@ read_at i rs = (get_or rs i (record { sheet = []; read = []; lent = []; listed =
 unfoldable pub judged_at : ℕ → List Row → List ℕ
 judged_at i rs = (get_or rs i (record { sheet = []; reads = []; lent = []; opens = []; opened = []; settles = []; judges = []; judged = [] })).judges
 
-prints : (sheet : List ℕ) (t l c o s m : ℕ) → readSays (read_kb limit sheet) ≡ 0 ∷ 0 ∷ t ∷ l ∷ c ∷ []
-    → judgeSays (read_kb limit sheet) lent ≡ 0 ∷ 0 ∷ o ∷ s ∷ m ∷ [] → printed sheet ≡ judged_lines t l c (0 ∷ 0 ∷ o ∷ s ∷ m ∷ [])
+prints : (sheet : List ℕ) (t l c o s m : ℕ) → read_says (read_kb limit sheet) ≡ 0 ∷ 0 ∷ t ∷ l ∷ c ∷ []
+    → judge_says (read_kb limit sheet) lent ≡ 0 ∷ 0 ∷ o ∷ s ∷ m ∷ [] → printed sheet ≡ judged_lines t l c (0 ∷ 0 ∷ o ∷ s ∷ m ∷ [])
 unfolding printed
 prints sheet t l c o s m reads judges =
     sym (lines_of (read_kb limit sheet) set4096 t l c (sym reads))
@@ -58,8 +58,8 @@ s2-printed = prints s2 1 1 2 16 0 0 (ap (read_at 3) reads-right) (ap (judged_at 
 
 -- ---- refusals
 
-refused : (s : Reading) (ws : List ℕ) (n p : ℕ) → readSays s ≡ n ∷ p ∷ [] → evening_lines s ws ≡ refused_line n p
-unfolding readSays evening_lines
+refused : (s : Reading) (ws : List ℕ) (n p : ℕ) → read_says s ≡ n ∷ p ∷ [] → evening_lines s ws ≡ refused_line n p
+unfolding read_says evening_lines
 refused (refusal m q) ws n p e = cc
 refused (kb k) ws n p e = absurd (omega (arith, ap length e))
 
@@ -80,7 +80,7 @@ module _ (k : Kb) where
       let f : length set4096 < held (kb_view k) = omega (arith, many) in
       rw (judge_short k set4096 (lt-ltb (length set4096) (held (kb_view k)) f))
 
-  pub nine_enough : taken ≤ 9 → isShort k set4096 ≡ false
+  pub nine_enough : taken ≤ 9 → is_short k set4096 ≡ false
   nine_enough h =
       let p = pow-le-pow_right {n = 2} (omega arith) {i = 2 * length (parts_of k) + 2 * k.roles} {j = 18} (omega arith) in
       let f : held (kb_view k) ≤ length set4096 = omega (arith, many) in

@@ -2,7 +2,7 @@
 use Rattle.std.specs.Prelude.{ℕ, ◌≡◌, Bool, cond, List, ◌++◌, eqb, length, get_or, replicate}
 use Rattle.syntax.specs.Reading.{Reading, refusal, kb, parts_of, read_kb}
 use Rattle.syntax.specs.Answers.{limit}
-use Rattle.domino.specs.Answers.{judgeSays, judgeLeaves}
+use Rattle.domino.specs.Answers.{judge_says, judge_leaves}
 use Rattle.report.specs.Text.{text, labelled, Puts}
 
 -- "A refusal prints one line, `refused 7 at 4`: number, then place."
@@ -31,12 +31,12 @@ judged_lines t l c says =
 -- for a sheet read so, and these words lent
 unfoldable pub evening_lines : Reading → List ℕ → List ℕ
 evening_lines (refusal n p) ws = refused_line n p
-evening_lines (kb k) ws = judged_lines k.names k.roles (length (parts_of k)) (judgeSays (kb k) ws)
+evening_lines (kb k) ws = judged_lines k.names k.roles (length (parts_of k)) (judge_says (kb k) ws)
 
 -- the lines stand at the front of the buffer, and the words are as judge leaves them
 pub record Reports (s : Reading) (words left before after : List ℕ) (r : ℕ) : Type 0 where
   pub lines : Puts (evening_lines s words) 0 before after r
-  pub set : left ≡ judgeLeaves s words
+  pub set : left ≡ judge_leaves s words
 
 -- what the evening program prints for a sheet: "with a set of 4,096 words"
 unfoldable pub printed : List ℕ → List ℕ

@@ -3,7 +3,7 @@ ghost use Rattle.std.specs.Prelude.{◌+◌, ◌≤◌, ◌++◌, length};
 ghost use Rattle.report.specs.Text.{decimal, Puts};
 ghost use Rattle.syntax.specs.Reading.{read_kb};
 ghost use Rattle.syntax.specs.Answers.{limit};
-ghost use Rattle.domino.specs.Answers.{judgeNumbers};
+ghost use Rattle.domino.specs.Answers.{judge_numbers};
 ghost use Rattle.report.specs.Lines.{refused_line, counts_line, sizes_line, verdict_line, judged_lines, Reports};
 
 use domino::JudgeAnswer;
@@ -97,7 +97,7 @@ pub(crate) fn put_judged(
     answer: JudgeAnswer,
 ) -> usize
     requires { 160 ≤ length out.old }
-    ensures { Puts (judged_lines names roles parts (judgeNumbers answer)) 0 out.old out.new result }
+    ensures { Puts (judged_lines names roles parts (judge_numbers answer)) 0 out.old out.new result }
 {
     match answer {
         JudgeAnswer::Refused(number, place) => put_refusal(out, 0, number as u64, place as u64),

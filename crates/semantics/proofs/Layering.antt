@@ -16,7 +16,7 @@ use Rattle.bitset.proofs.Laws.{bit_past}
 use Rattle.bitset.proofs.Facts.{and_l, and_r_lem, and_i, imp_i, imp_e, is_false, iff_eq, dec}
 use Rattle.elimination.specs.Sets.{every, some}
 use Rattle.elimination.proofs.Quantifiers.{all-at, all_intro, any_intro, any_found}
-use Rattle.syntax.specs.Concepts.{Role, named, inverse as inverseR, not_r, and_r, or_r}
+use Rattle.syntax.specs.Concepts.{Role, named, inverse as inverse_r, not_r, and_r, or_r}
 use Rattle.syntax.specs.Normal.{Tag}
 use Rattle.syntax.specs.Flatten.{Filler, Part, exists_p, forall_p, Flat, part_at}
 use Rattle.syntax.specs.Truth.{eval, kb_on, role_on}
@@ -57,7 +57,7 @@ module _ (L : ℕ) (fs : List Flat) (ps : List Part) (D : Dominoes) (stable : St
   role-at : (x y : ℕ) → x < n → y < n → (u : Role) → RolesBelow L u → role_in J u x y ≡ role_on u (rs x y)
   unfolding role_in role_on J
   role-at x y lx ly (named k) h = refl
-  role-at x y lx ly (inverseR k) h = Y.back k x y h lx ly
+  role-at x y lx ly (inverse_r k) h = Y.back k x y h lx ly
   role-at x y lx ly (not_r u) h = ap not (role-at x y lx ly u h)
   role-at x y lx ly (and_r u v) h = ap₂ ◌&&◌ (role-at x y lx ly u h.0) (role-at x y lx ly v h.1)
   role-at x y lx ly (or_r u v) h = ap₂ ◌||◌ (role-at x y lx ly u h.0) (role-at x y lx ly v h.1)

@@ -12,7 +12,7 @@ use Rattle.bitset.specs.Bits.{bit, word}
 use Rattle.bitset.proofs.Laws.{word_lt, word_ext, word_bits, bit_word, bit_past}
 use Rattle.bitset.proofs.Facts.{and_l, and_r_lem, and_i, imp_e, imp_i}
 use Rattle.elimination.proofs.Quantifiers.{all-at, all_intro, any_intro, any_found, not-all}
-use Rattle.syntax.specs.Concepts.{Role, named, inverse as inverseR, not_r, and_r, or_r}
+use Rattle.syntax.specs.Concepts.{Role, named, inverse as inverse_r, not_r, and_r, or_r}
 use Rattle.syntax.specs.Flatten.{Part, name_p, fresh_p, exists_p, forall_p, Flat, part_at}
 use Rattle.syntax.specs.Truth.{eval, kb_on, role_on}
 use Rattle.syntax.specs.Parts.{kind_of, role_holds}
@@ -47,7 +47,7 @@ module _ (J : ℕ → ℕ → ℕ → Bool) (x y : ℕ) where
   pub role_in_lem : (L : ℕ) (u : Role) → RolesBelow L u → role_on u (role_set L J x y) ≡ role_in J u x y
   unfolding role_on role_in role_set
   role_in_lem L (named k) h = bit_word (2 * L) (role_bit J x y) (2 * k) (omega arith) ∙ role_even k
-  role_in_lem L (inverseR k) h = bit_word (2 * L) (role_bit J x y) (2 * k + 1) (omega arith) ∙ role-odd k
+  role_in_lem L (inverse_r k) h = bit_word (2 * L) (role_bit J x y) (2 * k + 1) (omega arith) ∙ role-odd k
   role_in_lem L (not_r u) h = ap not (role_in_lem L u h)
   role_in_lem L (and_r u v) h = ap₂ ◌&&◌ (role_in_lem L u h.0) (role_in_lem L v h.1)
   role_in_lem L (or_r u v) h = ap₂ ◌||◌ (role_in_lem L u h.0) (role_in_lem L v h.1)

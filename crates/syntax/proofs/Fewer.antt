@@ -10,12 +10,12 @@ use lib.ListN.{length, length-append}
 use Rattle.records.specs.Scan.{State, whole, scan_sheet}
 use Rattle.syntax.specs.Concepts.{Axiom}
 use Rattle.syntax.specs.Normal.{Tag, Nf, top_n, bottom_n, name_n, not_n, and_n, or_n, exists_n, forall_n}
-use Rattle.syntax.specs.Flatten.{Atom, Filler, atomic, Part, exists_p, forall_p, atom, Pending, whole as wholeP, guarded, Walked, Lookup, shared, separate, placed, meet_one, walk_by, walk_pending_by, run_by, weights, name_parts_lem, pendings, flatten_by}
+use Rattle.syntax.specs.Flatten.{Atom, Filler, atomic, Part, exists_p, forall_p, atom, Pending, whole as whole_p, guarded, Walked, Lookup, shared, separate, placed, meet_one, walk_by, walk_pending_by, run_by, weights, name_parts_lem, pendings, flatten_by}
 use Rattle.syntax.specs.Reading.{Kb, kb, kb_of, parts_of, admit, reading, read_kb}
 
 -- the normal forms on a list, whatever the numbers of the fresh parts there
 abbrev form : Pending → Nf
-form (wholeP c) = c
+form (whole_p c) = c
 form (guarded j c) = c
 
 abbrev forms : List Pending → List Nf
@@ -70,9 +70,9 @@ module _ (find : Lookup) where
   pending_fewer : (p p' : Pending) (so so' : List Part) → form p ≡ form p' →
       Fewer (walk_pending_by find p so) (walk_pending_by separate p' so')
   unfolding walk_pending_by
-  pending_fewer (wholeP c) (wholeP d) so so' e = rw (← e) (walk-fewer c so so')
-  pending_fewer (wholeP c) (guarded j d) so so' e = rw (← e) (walk-fewer c so so')
-  pending_fewer (guarded i c) (wholeP d) so so' e = rw (← e) (walk-fewer c so so')
+  pending_fewer (whole_p c) (whole_p d) so so' e = rw (← e) (walk-fewer c so so')
+  pending_fewer (whole_p c) (guarded j d) so so' e = rw (← e) (walk-fewer c so so')
+  pending_fewer (guarded i c) (whole_p d) so so' e = rw (← e) (walk-fewer c so so')
   pending_fewer (guarded i c) (guarded j d) so so' e = rw (← e) (walk-fewer c so so')
 
   run_fewer : (f : ℕ) (q q' : List Pending) (so so' : List Part) → forms q ≡ forms q' →

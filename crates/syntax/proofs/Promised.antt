@@ -15,7 +15,7 @@ use Rattle.records.specs.Places.{NamedRightly}
 use Rattle.records.proofs.Namings.{read_named}
 use Rattle.syntax.specs.Concepts.{Role, Axiom}
 use Rattle.syntax.specs.Normal.{Tag, Nf, top_n, bottom_n, name_n, not_n, and_n, or_n, exists_n, forall_n}
-use Rattle.syntax.specs.Flatten.{Atom, everything, nothing, name_a, Filler, atomic, fresh, Part, name_p, fresh_p, exists_p, forall_p, atom, Pending, whole as wholeP, guarded, Walked, alike, SameRestriction, Lookup, shared, placed, meet_one, walk_by, walk_pending_by, run_by, weights, name_parts_lem, pendings, flatten_by, no_part, part_at}
+use Rattle.syntax.specs.Flatten.{Atom, everything, nothing, name_a, Filler, atomic, fresh, Part, name_p, fresh_p, exists_p, forall_p, atom, Pending, whole as whole_p, guarded, Walked, alike, SameRestriction, Lookup, shared, placed, meet_one, walk_by, walk_pending_by, run_by, weights, name_parts_lem, pendings, flatten_by, no_part, part_at}
 use Rattle.syntax.specs.Truth.{role_on}
 use Rattle.syntax.specs.Reading.{Kb, refusal, kb, kb_of, parts_of, admit, reading, read_kb}
 use Rattle.syntax.specs.Bounds.{All, RolesBelow, AxiomNames, AxiomRoles, AxiomsBelow, PartRole, PartFiller, FillerLow, PartLow, FillerPlain, PartPlain}
@@ -86,7 +86,7 @@ module _ (find : Lookup) (T : ℕ) (Q : Role → Type 0) where
   NfBounded c = EachNf (λ t. t < T) Q c
 
   abbrev Waits : Pending → Type 0
-  Waits (wholeP c) = NfBounded c
+  Waits (whole_p c) = NfBounded c
   Waits (guarded f c) = NfBounded c
 
   pendings_wait : (s : List Axiom) → AxiomNames T s → AxiomRoles Q s → All Waits (pendings s)
@@ -180,7 +180,7 @@ module _ (find : Lookup) (T : ℕ) (Q : Role → Type 0) where
 
   pending_keeps : (p : Pending) (so : List Part) → Waits p → Sound so → Keeps so (walk_pending_by find p so)
   unfolding walk_pending_by
-  pending_keeps (wholeP c) so h s = walk-keeps c so h s
+  pending_keeps (whole_p c) so h s = walk-keeps c so h s
   pending_keeps (guarded f c) so h s = walk-keeps c so h s
 
   run_keeps : (f : ℕ) (q : List Pending) (so : List Part) → All Waits q → Sound so → Sound (so ++ (run_by find f q so).parts)

@@ -9,35 +9,35 @@ abbrev pub limit : ℕ
 limit = 12
 
 -- "read answers T, L and c"
-unfoldable pub readSays : Reading → List ℕ
-readSays (refusal n p) = n ∷ p ∷ []
-readSays (kb k) = 0 ∷ 0 ∷ k.names ∷ k.roles ∷ length (parts_of k) ∷ []
+unfoldable pub read_says : Reading → List ℕ
+read_says (refusal n p) = n ∷ p ∷ []
+read_says (kb k) = 0 ∷ 0 ∷ k.names ∷ k.roles ∷ length (parts_of k) ∷ []
 
-abbrev pub oddNo : Tag → ℕ
-oddNo g = cond g.odd 1 0
+abbrev pub odd_no : Tag → ℕ
+odd_no g = cond g.odd 1 0
 
 -- "kind (0 trait, 1 fresh, 2 some, 3 only, after normal form), then the trait number or the record number of the filler
 -- (fresh) or of the some/only, then 1 if that record is read under an odd number of nots"
-unfoldable pub partBytes : Part → List ℕ
-partBytes (name_p t) = 0 ∷ t ∷ 0 ∷ []
-partBytes (fresh_p g c) = 1 ∷ g.filler ∷ oddNo g ∷ []
-partBytes (exists_p g u f) = 2 ∷ g.source ∷ oddNo g ∷ []
-partBytes (forall_p g u f) = 3 ∷ g.source ∷ oddNo g ∷ []
+unfoldable pub part_bytes : Part → List ℕ
+part_bytes (name_p t) = 0 ∷ t ∷ 0 ∷ []
+part_bytes (fresh_p g c) = 1 ∷ g.filler ∷ odd_no g ∷ []
+part_bytes (exists_p g u f) = 2 ∷ g.source ∷ odd_no g ∷ []
+part_bytes (forall_p g u f) = 3 ∷ g.source ∷ odd_no g ∷ []
 
 unfoldable pub bytes_of : List Part → List ℕ
 bytes_of [] = []
-bytes_of (p ∷ ps) = partBytes p ++ bytes_of ps
+bytes_of (p ∷ ps) = part_bytes p ++ bytes_of ps
 
 -- "refuses as read does, then 12, list shorter than 3c bytes"
-unfoldable pub listSays : Reading → List ℕ → List ℕ
-listSays (refusal n p) l = n ∷ p ∷ []
-listSays (kb k) l = cond (ltb (length l) (3 * length (parts_of k))) (12 ∷ 0 ∷ []) (0 ∷ 0 ∷ length (parts_of k) ∷ [])
+unfoldable pub list_says : Reading → List ℕ → List ℕ
+list_says (refusal n p) l = n ∷ p ∷ []
+list_says (kb k) l = cond (ltb (length l) (3 * length (parts_of k))) (12 ∷ 0 ∷ []) (0 ∷ 0 ∷ length (parts_of k) ∷ [])
 
 -- the numbers it refuses with
-unfoldable pub isListRefusal : ℕ → Bool
-isListRefusal n = is_read_refusal n || eqb n 12
+unfoldable pub is_list_refusal : ℕ → Bool
+is_list_refusal n = is_read_refusal n || eqb n 12
 
 -- "it writes three bytes for each mark; bytes past 3c are kept"; a refusal writes nothing
-unfoldable pub listLeaves : Reading → List ℕ → List ℕ
-listLeaves (refusal n p) l = l
-listLeaves (kb k) l = cond (ltb (length l) (3 * length (parts_of k))) l (bytes_of (parts_of k) ++ drop (3 * length (parts_of k)) l)
+unfoldable pub list_leaves : Reading → List ℕ → List ℕ
+list_leaves (refusal n p) l = l
+list_leaves (kb k) l = cond (ltb (length l) (3 * length (parts_of k))) l (bytes_of (parts_of k) ++ drop (3 * length (parts_of k)) l)

@@ -2,7 +2,7 @@
 -- each, and what list marks leaves. Proved in proofs/Worked.antt.
 use Rattle.std.specs.Prelude.{ℕ, zero, suc, ◌+◌, ◌*◌, List, [], ◌∷◌, ◌++◌, replicate}
 use Rattle.syntax.specs.Reading.{read_kb}
-use Rattle.syntax.specs.Answers.{limit, readSays, listSays, listLeaves}
+use Rattle.syntax.specs.Answers.{limit, read_says, list_says, list_leaves}
 
 -- a sheet, what read says of it, a list lent to list marks, what that call says and what it leaves in the list
 pub record Row : Type 0 where
@@ -18,8 +18,8 @@ row s r l d w = record { sheet = s; read = r; lent = l; listed = d; left = w }
 -- the row as the definitions have it
 abbrev pub answered : Row → Row
 answered r =
-    row r.sheet (readSays (read_kb limit r.sheet)) r.lent (listSays (read_kb limit r.sheet) r.lent)
-    (listLeaves (read_kb limit r.sheet) r.lent)
+    row r.sheet (read_says (read_kb limit r.sheet)) r.lent (list_says (read_kb limit r.sheet) r.lent)
+    (list_leaves (read_kb limit r.sheet) r.lent)
 
 abbrev pub s1 : List ℕ
 s1 = 0x01 ∷ 0x10 ∷ 0x00 ∷ 0x03 ∷ 0x00 ∷ 0x07 ∷ 0x01 ∷ 0x02 ∷ 0x20 ∷ 0x00 ∷ 0x03 ∷ []

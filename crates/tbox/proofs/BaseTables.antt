@@ -21,7 +21,7 @@ use Rattle.syntax.specs.Normal.{Tag}
 use Rattle.syntax.specs.Flatten.{everything, nothing, name_a, Filler, atomic, fresh, Part, part_at}
 use Rattle.syntax.specs.Truth.{kb_on, role_on}
 use Rattle.syntax.specs.Reading.{parts_of, flats_of}
-use Rattle.syntax.specs.Answers.{oddNo}
+use Rattle.syntax.specs.Answers.{odd_no}
 use Rattle.syntax.specs.Parts.{fresh_no, filler_no, filler_of, role_holds}
 use Rattle.tbox.specs.Promise.{Loads}
 use Rattle.records.specs.RecordTable.{seen}
@@ -60,7 +60,7 @@ module _ (es : List Entry) (i x : ℕ) (p : Part) (l : 2 ≤ x % 4) (h : Stands 
   filler-is =
       stand-restriction es i x (λ p. filler_code (x / 2048 % 512) i ≡ filler_of p) p l h
       (λ kind g u f kk xx r.
-      let w = word-filler x kind (oddNo g) g.source (filler_word f) xx kk (flag-low g.odd) r.byte in
+      let w = word-filler x kind (odd_no g) g.source (filler_word f) xx kk (flag-low g.odd) r.byte in
       let z : filler_code (x / 2048 % 512) i ≡ filler_no f = rw w (code_is i f r.filler) in
       (z, z))
 
@@ -78,10 +78,10 @@ role_holds_lem es i x e ee p l h w =
     stand-restriction es i x (λ p. word_at (role_on (role_below es (x / 8 % 256) e.first)) w ≡ word_at (role_holds p) w) p l h
     (λ kind g u f kk xx r. let z = same kind g u f kk xx r in (z, z))
   where
-    same : (kind : ℕ) (g : Tag) (u : Role) (f : Filler) → kind < 4 → x ≡ part_word_lem kind (oddNo g) g.source (filler_word f) → Restricts es i g u f →
+    same : (kind : ℕ) (g : Tag) (u : Role) (f : Filler) → kind < 4 → x ≡ part_word_lem kind (odd_no g) g.source (filler_word f) → Restricts es i g u f →
         word_at (role_on (role_below es (x / 8 % 256) e.first)) w ≡ word_at (role_on u) w
     same kind g u f kk xx r =
-        let s : x / 8 % 256 ≡ g.source = word_number x kind (oddNo g) g.source (filler_word f) xx kk (flag-low g.odd) r.byte in
+        let s : x / 8 % 256 ≡ g.source = word_number x kind (odd_no g) g.source (filler_word f) xx kk (flag-low g.odd) r.byte in
         rw (r.role, ee, s) refl
 
 -- the words of a part's role, found by the part and the word

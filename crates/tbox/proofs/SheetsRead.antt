@@ -11,8 +11,8 @@ use Rattle.tbox.specs.declared.admission.Admitted.{Admitted}
 use Rattle.tbox.specs.declared.ReadAnswer.TheVariants.{Refused, Read}
 use Rattle.tbox.specs.declared.ListAnswer.TheVariants.{Refused as NotListed, Listed}
 use Rattle.syntax.specs.Reading.{Kb, Reading, refusal, parts_of, admit, reading, read_kb}
-use Rattle.tbox.specs.Answers.{readNumbers, listNumbers, Lists}
-use Rattle.syntax.specs.Answers.{readSays, listSays, listLeaves}
+use Rattle.tbox.specs.Answers.{read_numbers, list_numbers, Lists}
+use Rattle.syntax.specs.Answers.{read_says, list_says, list_leaves}
 use Rattle.records.specs.RecordTable.{seen, Scans}
 use Rattle.flattening.specs.PartTable.{Stood, Held}
 use Rattle.tbox.specs.Admission.{kb_in, kb_admitted, found_in, Admits}
@@ -81,31 +81,31 @@ module _ (bound : ℕ) (sheet table parts' : List ℕ) (a : Admitted) (p : Admit
   pub stood : a.fault ≡ 0 → Stood (seen table a.count) parts' (parts_of (kb_admitted table a))
   stood z = (p.held z).stand (omega (arith, count-is z, p.small z))
 
-  pub read-refused : (a.fault ≡ 0 → ⊥) → readNumbers (Refused a.fault a.place) ≡ readSays (read_kb bound sheet)
-  unfolding readNumbers readSays
-  read-refused z = sym (ap readSays (p.refused z))
+  pub read-refused : (a.fault ≡ 0 → ⊥) → read_numbers (Refused a.fault a.place) ≡ read_says (read_kb bound sheet)
+  unfolding read_numbers read_says
+  read-refused z = sym (ap read_says (p.refused z))
 
-  pub read_whole : a.fault ≡ 0 → readNumbers (Read a.names a.roles a.parts) ≡ readSays (read_kb bound sheet)
-  unfolding readNumbers readSays
-  read_whole z = rw (count-is z) (sym (ap readSays (p.read z)))
+  pub read_whole : a.fault ≡ 0 → read_numbers (Read a.names a.roles a.parts) ≡ read_says (read_kb bound sheet)
+  unfolding read_numbers read_says
+  read_whole z = rw (count-is z) (sym (ap read_says (p.read z)))
 
   module _ (b : List ℕ) where
-    pub list_refused : (a.fault ≡ 0 → ⊥) → Lists (read_kb bound sheet) b b (NotListed a.fault a.place)
-    unfolding listNumbers listSays listLeaves
-    list_refused z = record { answer = sym (ap (λ (x : Reading). listSays x b) (p.refused z)); list = sym (ap (λ (x : Reading). listLeaves x b) (p.refused z)) }
+    pub list-refused : (a.fault ≡ 0 → ⊥) → Lists (read_kb bound sheet) b b (NotListed a.fault a.place)
+    unfolding list_numbers list_says list_leaves
+    list-refused z = record { answer = sym (ap (λ (x : Reading). list_says x b) (p.refused z)); list = sym (ap (λ (x : Reading). list_leaves x b) (p.refused z)) }
 
-    pub list_short : a.fault ≡ 0 → length b < 3 * a.parts → Lists (read_kb bound sheet) b b (NotListed 12 0)
-    unfolding listNumbers listSays listLeaves
-    list_short z h =
+    pub list-short : a.fault ≡ 0 → length b < 3 * a.parts → Lists (read_kb bound sheet) b b (NotListed 12 0)
+    unfolding list_numbers list_says list_leaves
+    list-short z h =
         rw (p.read z) (record { answer = simp (lt-ltb _ _ less); list = simp (lt-ltb _ _ less) })
       where
         less : length b < 3 * length (parts_of (kb_admitted table a))
         less = omega (arith, count-is z)
 
-    pub list_whole : a.fault ≡ 0 → length parts' ≡ 20 → bound ≤ 20 → 3 * a.parts ≤ length b → (l : List ℕ) →
+    pub list-whole : a.fault ≡ 0 → length parts' ≡ 20 → bound ≤ 20 → 3 * a.parts ≤ length b → (l : List ℕ) →
         l ≡ slots_of (take a.parts parts') ++ drop (3 * a.parts) b → Lists (read_kb bound sheet) b l (Listed a.parts)
-    unfolding listNumbers listSays listLeaves
-    list_whole z n m h l q =
+    unfolding list_numbers list_says list_leaves
+    list-whole z n m h l q =
         rw (p.read z) (record {
           answer = ap (λ (x : ℕ). 0 ∷ 0 ∷ x ∷ []) (count-is z) ∙ simp (le-ltb _ _ room);
           list = q ∙ rw (count-is z, slots-bytes (seen table a.count) parts' (parts_of (kb_admitted table a)) (omega (arith, count-is z, p.small z)) (stood z)) (simp (le-ltb _ _ room));

@@ -5,17 +5,17 @@ use Rattle.tbox.specs.declared.ReadAnswer.TheVariants.{Refused, Read}
 use Rattle.tbox.specs.declared.ListAnswer.{ListAnswer}
 use Rattle.tbox.specs.declared.ListAnswer.TheVariants.{Refused as NotListed, Listed}
 use Rattle.syntax.specs.Reading.{Reading}
-use Rattle.syntax.specs.Answers.{listLeaves, listSays}
+use Rattle.syntax.specs.Answers.{list_leaves, list_says}
 
 -- document 01's number and values for each case of an answer: the refusal's number (0 for none), its place, then the values
-unfoldable pub readNumbers : ReadAnswer → List ℕ
-readNumbers (Refused n p) = n ∷ p ∷ []
-readNumbers (Read t l c) = 0 ∷ 0 ∷ t ∷ l ∷ c ∷ []
+unfoldable pub read_numbers : ReadAnswer → List ℕ
+read_numbers (Refused n p) = n ∷ p ∷ []
+read_numbers (Read t l c) = 0 ∷ 0 ∷ t ∷ l ∷ c ∷ []
 
-unfoldable pub listNumbers : ListAnswer → List ℕ
-listNumbers (NotListed n p) = n ∷ p ∷ []
-listNumbers (Listed c) = 0 ∷ 0 ∷ c ∷ []
+unfoldable pub list_numbers : ListAnswer → List ℕ
+list_numbers (NotListed n p) = n ∷ p ∷ []
+list_numbers (Listed c) = 0 ∷ 0 ∷ c ∷ []
 
 pub record Lists (s : Reading) (before after : List ℕ) (r : ListAnswer) : Type 0 where
-  pub answer : listNumbers r ≡ listSays s before
-  pub list : after ≡ listLeaves s before
+  pub answer : list_numbers r ≡ list_says s before
+  pub list : after ≡ list_leaves s before

@@ -1,8 +1,8 @@
 // Knowledge bases in ALCIb: reading a sheet, listing its parts, and the flattened knowledge base for the layers above.
 ghost use Rattle.std.specs.Prelude.{◌≡◌, ◌+◌, ◌*◌, ◌≤◌, ◌++◌, length, take, drop};
 ghost use Rattle.syntax.specs.Reading.{read_kb};
-ghost use Rattle.syntax.specs.Answers.{limit, readSays};
-ghost use Rattle.tbox.specs.Answers.{readNumbers, Lists};
+ghost use Rattle.syntax.specs.Answers.{limit, read_says};
+ghost use Rattle.tbox.specs.Answers.{read_numbers, Lists};
 ghost use Rattle.flattening.specs.PartTable.{slot_bytes};
 ghost use Rattle.tbox.specs.ListBytes.{slots_of};
 
@@ -25,7 +25,7 @@ pub enum ReadAnswer {
 }
 
 pub fn read(sheet: &[u8]) -> ReadAnswer
-    ensures { readNumbers result ≡ readSays (read_kb limit sheet.now) }
+    ensures { read_numbers result ≡ read_says (read_kb limit sheet.now) }
 {
     let mut table = [0u32; 255];
     let mut parts = [0u32; 20];

@@ -1,7 +1,7 @@
 -- What judge says is returned and written; the words are as it leaves them.
 use mathlib.Core.Path.{ap, ◌∙◌}
 use borrow.Author.Rules.{rules}
-use Rattle.domino.specs.Answers.{judgeNumbers}
+use Rattle.domino.specs.Answers.{judge_numbers}
 use Rattle.capi.specs.Out.{result_out, place_out}
 use Rattle.capi.proofs.Laws.{said, place-said, value_said, as_number}
 use Rattle.capi.proofs.lodhrussi_judge.Statement.{statement}
@@ -26,20 +26,20 @@ same_length : tie.Need-same-length
 same_length c = search rules
 
 returns : tie.Need-returns
-unfolding judgeNumbers place_out
+unfolding judge_numbers place_out
 returns c =
     let h = c.before.before.before.before.before.judge.ensures in
-    let e = said judgeNumbers _ _ _ c.before.a.given.1 h.answer in
+    let e = said judge_numbers _ _ _ c.before.a.given.1 h.answer in
     (ap result_out e, (place-said _ _ _ e, (value_said 0 _ _ _ e, (value_said 1 _ _ _ e, (value_said 2 _ _ _ e, h.set)))))
 
 same-length-2 : tie.Need-same-length-2
 same-length-2 c = search rules
 
 returns-2 : tie.Need-returns-2
-unfolding judgeNumbers place_out
+unfolding judge_numbers place_out
 returns-2 c =
     let h = c.before.before.before.before.before.judge.ensures in
-    let e = said judgeNumbers _ _ _ c.before.a2.given.1 h.answer in
+    let e = said judge_numbers _ _ _ c.before.a2.given.1 h.answer in
     let met = as_number c.before.a2.given.0.1.1.0 ∙ value_said 2 _ _ _ e in
     (ap result_out e, (place-said _ _ _ e, (value_said 0 _ _ _ e, (value_said 1 _ _ _ e, (met, h.set)))))
 

@@ -1,7 +1,7 @@
 -- What list marks says is returned and written; the list is as it leaves it.
 use mathlib.Core.Path.{ap}
 use borrow.Author.Rules.{rules}
-use Rattle.tbox.specs.Answers.{listNumbers}
+use Rattle.tbox.specs.Answers.{list_numbers}
 use Rattle.capi.specs.Out.{result_out, place_out}
 use Rattle.capi.proofs.Laws.{said, place-said}
 use Rattle.capi.proofs.lodhrussi_list_marks.Statement.{statement}
@@ -23,20 +23,20 @@ same_length : tie.Need-same-length
 same_length c = search rules
 
 returns : tie.Need-returns
-unfolding listNumbers place_out
+unfolding list_numbers place_out
 returns c =
     let h = c.before.before.before.before.before.list-marks.ensures in
-    let e = said listNumbers _ _ _ c.before.a.given.1 h.answer in
+    let e = said list_numbers _ _ _ c.before.a.given.1 h.answer in
     (ap result_out e, (place-said _ _ _ e, h.list))
 
 same-length-2 : tie.Need-same-length-2
 same-length-2 c = search rules
 
 returns-2 : tie.Need-returns-2
-unfolding listNumbers place_out
+unfolding list_numbers place_out
 returns-2 c =
     let h = c.before.before.before.before.list-marks.ensures in
-    let e = said listNumbers _ _ _ c.enum_told.given.1 h.answer in
+    let e = said list_numbers _ _ _ c.enum_told.given.1 h.answer in
     (ap result_out e, (place-said _ _ _ e, h.list))
 
 pub lodhrussi-list-marks-spec : {M : Type 1} → statement M

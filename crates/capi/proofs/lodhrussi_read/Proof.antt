@@ -1,7 +1,7 @@
 -- What read says is returned and written.
 use mathlib.Core.Path.{ap}
 use borrow.Author.Rules.{rules}
-use Rattle.tbox.specs.Answers.{readNumbers}
+use Rattle.tbox.specs.Answers.{read_numbers}
 use Rattle.capi.specs.Out.{result_out, place_out}
 use Rattle.capi.proofs.Laws.{said, place-said, value_said}
 use Rattle.capi.proofs.lodhrussi_read.Statement.{statement}
@@ -20,17 +20,17 @@ enum-known-a-2 : tie.Need-enum-known-a-2
 enum-known-a-2 c = search rules
 
 returns : tie.Need-returns
-unfolding readNumbers place_out
+unfolding read_numbers place_out
 returns c =
     let h = c.before.before.before.read.ensures in
-    let e = said readNumbers _ _ _ c.before.a.given.1 h in
+    let e = said read_numbers _ _ _ c.before.a.given.1 h in
     (ap result_out e, (place-said _ _ _ e, (value_said 0 _ _ _ e, (value_said 1 _ _ _ e, value_said 2 _ _ _ e))))
 
 returns-2 : tie.Need-returns-2
-unfolding readNumbers place_out
+unfolding read_numbers place_out
 returns-2 c =
     let h = c.before.before.before.read.ensures in
-    let e = said readNumbers _ _ _ c.before.a2.given.1 h in
+    let e = said read_numbers _ _ _ c.before.a2.given.1 h in
     (ap result_out e, (place-said _ _ _ e, (value_said 0 _ _ _ e, (value_said 1 _ _ _ e, value_said 2 _ _ _ e))))
 
 pub lodhrussi-read-spec : {M : Type 1} → statement M

@@ -1,7 +1,7 @@
 -- What settle says is returned and written; the words are as it leaves them.
 use mathlib.Core.Path.{ap}
 use borrow.Author.Rules.{rules}
-use Rattle.domino.specs.Answers.{settleNumbers}
+use Rattle.domino.specs.Answers.{settle_numbers}
 use Rattle.capi.specs.Out.{result_out, place_out}
 use Rattle.capi.proofs.Laws.{said, place-said, value_said}
 use Rattle.capi.proofs.lodhrussi_settle.Statement.{statement}
@@ -23,20 +23,20 @@ same_length : tie.Need-same-length
 same_length c = search rules
 
 returns : tie.Need-returns
-unfolding settleNumbers place_out
+unfolding settle_numbers place_out
 returns c =
     let h = c.before.before.before.before.before.settle.ensures in
-    let e = said settleNumbers _ _ _ c.before.a.given.1 h.answer in
+    let e = said settle_numbers _ _ _ c.before.a.given.1 h.answer in
     (ap result_out e, (place-said _ _ _ e, (value_said 0 _ _ _ e, h.set)))
 
 same-length-2 : tie.Need-same-length-2
 same-length-2 c = search rules
 
 returns-2 : tie.Need-returns-2
-unfolding settleNumbers place_out
+unfolding settle_numbers place_out
 returns-2 c =
     let h = c.before.before.before.before.before.settle.ensures in
-    let e = said settleNumbers _ _ _ c.before.a2.given.1 h.answer in
+    let e = said settle_numbers _ _ _ c.before.a2.given.1 h.answer in
     (ap result_out e, (place-said _ _ _ e, (value_said 0 _ _ _ e, h.set)))
 
 pub lodhrussi-settle-spec : {M : Type 1} → statement M
