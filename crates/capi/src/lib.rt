@@ -1,5 +1,7 @@
 // The functions for C and Rust: numbers and slices only, each a thin call. Each answers the refusal's number, 0 for done; a
 // refusal writes its place, a call that is done its values.
+#![tactic(auto)]
+
 ghost use Rattle.std.specs.Prelude.{◌≡◌, get_or};
 ghost use Rattle.domino.specs.Answers.{verdict_numbers};
 ghost use Rattle.capi.specs.Out.{result_out, place_out, value_out};

@@ -1,9 +1,11 @@
 // Standard input, output and error, for the programs.
+#![tactic(auto)]
+
 ghost use Rattle.std.specs.Prelude.{◌≤◌, ◌≡◌, take};
 ghost use Rattle.console.specs.Input.{Within, next_read_lem};
 ghost use Rattle.console.specs.Output.{handed};
 
-#[derive(Drop)]
+#[derive(Clone, Copy)]
 pub enum Input {
     // A read failed.
     Failed,
@@ -12,7 +14,7 @@ pub enum Input {
 }
 
 // What follows a read.
-#[derive(Drop)]
+#[derive(Clone, Copy)]
 enum Next {
     Failed,
     // No more is read: how many bytes were.

@@ -1,4 +1,6 @@
 // Domino sets in lent words: open, strike, settle and judge.
+#![tactic(auto)]
+
 ghost use Rattle.std.specs.Prelude.{◌≡◌, ◌+◌, ◌<◌, ◌≤◌, length};
 ghost use Rattle.syntax.specs.Reading.{read_kb};
 ghost use Rattle.syntax.specs.Answers.{limit};
@@ -14,7 +16,7 @@ use domino_settling::judging::judge_set;
 use domino_settling::settling::settle_set;
 use tbox::base::{Parts, ROLE_WORDS};
 
-#[derive(Drop)]
+#[derive(Clone, Copy)]
 pub enum OpenAnswer {
     // A refusal's number and place.
     Refused(u8, usize),
@@ -22,7 +24,7 @@ pub enum OpenAnswer {
     Opened(u64),
 }
 
-#[derive(Drop)]
+#[derive(Clone, Copy)]
 pub enum Verdict {
     Absent,
     // The number of the first condition that the domino failed.
@@ -31,20 +33,20 @@ pub enum Verdict {
 }
 
 // A verdict beside the domino's number.
-#[derive(Drop)]
+#[derive(Clone, Copy)]
 pub struct Outcome {
     pub number: usize,
     pub verdict: Verdict,
 }
 
-#[derive(Drop)]
+#[derive(Clone, Copy)]
 pub enum StrikeAnswer {
     // A refusal's number and place.
     Refused(u8, usize),
     Tried(Outcome),
 }
 
-#[derive(Drop)]
+#[derive(Clone, Copy)]
 pub enum SettleAnswer {
     // A refusal's number and place.
     Refused(u8, usize),
@@ -52,7 +54,7 @@ pub enum SettleAnswer {
     Settled(u64),
 }
 
-#[derive(Drop)]
+#[derive(Clone, Copy)]
 pub enum JudgeAnswer {
     // A refusal's number and place.
     Refused(u8, usize),

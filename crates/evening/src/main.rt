@@ -1,4 +1,6 @@
 // The evening program: reads one sheet from standard input and prints what judging it with 4,096 words says.
+#![tactic(auto)]
+
 ghost use Rattle.std.specs.Prelude.{◌≤◌, ◌≡◌, length};
 ghost use Rattle.console.specs.Input.{Within};
 ghost use Rattle.console.specs.Output.{handed};

@@ -1,4 +1,6 @@
 // The parts of a flattened knowledge base, found record by record in a table of words.
+#![tactic(auto)]
+
 pub mod parts;
 pub mod sharing;
 

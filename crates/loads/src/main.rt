@@ -1,4 +1,6 @@
 // Loads worked sheets and writes the flattened knowledge base of each, to be compared with what a separate program writes.
+#![tactic(auto)]
+
 ghost use Rattle.std.specs.Prelude.{◌<◌, ◌≤◌};
 
 use tbox::base::ROLE_WORDS;

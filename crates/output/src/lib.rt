@@ -1,8 +1,10 @@
 // Bytes put into a lent buffer, and the answer of a call that writes bytes.
+#![tactic(auto)]
+
 ghost use Rattle.std.specs.Prelude.{◌+◌, ◌≤◌, length};
 ghost use Rattle.output.specs.Output.{Puts};
 
-#[derive(Drop)]
+#[derive(Clone, Copy)]
 pub enum WriteAnswer {
     // A refusal's number and place.
     Refused(u8, usize),

@@ -1,4 +1,6 @@
 // Knowledge bases to and from OWL 2 functional-style syntax (02, N7).
+#![tactic(auto)]
+
 ghost use mathlib.Core.Path.{◌≡◌};
 ghost use mathlib.Core.List.{◌++◌};
 ghost use Prim.Native.Nat.{◌≤◌};
@@ -10,7 +12,7 @@ ghost use Rattle.output.specs.Output.{Writes};
 pub mod parser;
 pub mod tokens;
 
-#[derive(Drop)]
+#[derive(Clone, Copy)]
 pub enum WriteAnswer {
     // A refusal's number and place.
     Refused(u8, usize),

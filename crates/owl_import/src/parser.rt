@@ -13,7 +13,7 @@ use crate::tokens::{Word, next_token};
 
 // How far a text is read: a refusal's number and place, or 0 and 0; the byte that is read next, the records that may still begin, the
 // records that are written, and their bytes.
-#[derive(Drop)]
+#[derive(Clone, Copy)]
 pub(crate) struct Step {
     pub fault: u8,
     pub place: usize,

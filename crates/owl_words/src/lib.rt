@@ -1,4 +1,5 @@
 // The tokens of a text: words parted by spaces or line feeds, and parentheses, which need none.
+#![tactic(auto)]
 
 ghost use mathlib.Core.Path.{◌≡◌};
 ghost use Prim.Native.Nat.{◌≤◌, ◌-◌};
@@ -6,7 +7,7 @@ ghost use lib.ListN.{length, take, drop};
 ghost use Rattle.owl_words.specs.Words.{is_blank_lem, in_word, same_bytes, spelled, known_words, lower_forms, name_words, upper_words, property_words, known, skip as skipped, Ended, Finds};
 
 // A token's word: the known ones, the two parentheses, any other word, and the end of the text.
-#[derive(Drop)]
+#[derive(Clone, Copy)]
 pub enum Word {
     SubClassOf,
     IntersectionOf,
@@ -26,7 +27,7 @@ pub enum Word {
 }
 
 // A token: its word, the byte where it begins, and the byte after it.
-#[derive(Drop)]
+#[derive(Clone, Copy)]
 pub struct Found {
     pub word: Word,
     pub place: usize,

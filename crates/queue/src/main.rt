@@ -1,5 +1,7 @@
 // The six o'clock queue: judges the sheets of a queue on standard input, prints a line for each as soon as it is judged, then the
 // totals.
+#![tactic(auto)]
+
 ghost use Rattle.std.specs.Prelude.{◌≡◌, ◌≤◌, length};
 ghost use Rattle.console.specs.Input.{Within};
 ghost use Rattle.queue.specs.Steps.{Reached, ReadsStep, Takes, Turns, Served};

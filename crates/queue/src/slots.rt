@@ -5,7 +5,7 @@ ghost use Rattle.queue.specs.Steps.{JudgesAlone, JudgesSlot};
 use domino::JudgeAnswer;
 
 // What a slot's line says after its number.
-#[derive(Drop)]
+#[derive(Clone, Copy)]
 pub enum SlotAnswer {
     // The survivor count.
     Met(u64),

@@ -7,7 +7,7 @@ use crate::lines::{put_last, put_slot};
 use crate::slots::judge_slot;
 use crate::totals::{Totals, add};
 
-#[derive(Drop)]
+#[derive(Clone, Copy)]
 pub struct Stepped {
     pub totals: Totals,
     // How many bytes the line has.

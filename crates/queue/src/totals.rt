@@ -5,7 +5,7 @@ ghost use Rattle.queue.specs.Steps.{Small, added};
 
 use crate::slots::SlotAnswer;
 
-#[derive(Drop)]
+#[derive(Clone, Copy)]
 pub struct Totals {
     pub sheets: u64,
     pub met: u64,

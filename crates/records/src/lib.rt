@@ -1,11 +1,13 @@
 // Reads a sheet record by record into a table of words, one a record, or finds its first fault.
+#![tactic(auto)]
+
 ghost use Rattle.std.specs.Prelude.{◌≡◌, ◌+◌, ◌<◌, ◌≤◌, ◌^◌, max, length, get_or, eqb};
 ghost use Rattle.records.specs.Shapes.{shaped, shape_of, is_leaf_lem, is_restriction_lem};
 ghost use Rattle.records.specs.Scan.{record_at_lem, fault_at_lem, or_else, number_fault_lem, sort_fault_lem, again_fault_lem, reference_fault_lem, naming, name, empty_fault_lem, vacuous_of_lem, names_after_lem, roles_after_lem, body_byte_lem};
 ghost use Rattle.records.specs.RecordTable.{entry_of, seen, flag, state_of, told_fault, Body, Appended, Steps, Scans};
 
 // What a kind byte decides. Sorts: 0 none, 1 concept, 2 role, 3 axiom.
-#[derive(Drop)]
+#[derive(Clone, Copy)]
 pub struct Shape {
     // The record's own sort; 0: the kind is unknown.
     pub sort: u8,
@@ -20,7 +22,7 @@ pub struct Shape {
 
 // A record: its kind and body bytes, whether a later record names it, whether it is a role that holds on the empty role
 // set, and two facts of its kind's shape.
-#[derive(Drop)]
+#[derive(Clone, Copy)]
 pub struct Entry {
     pub kind: u8,
     pub first: u8,
@@ -34,7 +36,7 @@ pub struct Entry {
 }
 
 // How far reading has come: records, the next one's place, and one more than the largest number of a name and of a role.
-#[derive(Drop)]
+#[derive(Clone, Copy)]
 pub struct Progress {
     pub count: usize,
     pub at: usize,
@@ -43,7 +45,7 @@ pub struct Progress {
 }
 
 // The fault of a record: its number, 0 for none, and how many bytes past the record's start its place is.
-#[derive(Drop)]
+#[derive(Clone, Copy)]
 pub struct Fault {
     pub number: u8,
     pub offset: u8,
@@ -56,14 +58,14 @@ pub const FIRST: u8 = 101;
 pub const SECOND: u8 = 102;
 
 // One record: the test that it fails, or the progress after it.
-#[derive(Drop)]
+#[derive(Clone, Copy)]
 pub enum Stepped {
     Faulty(u8),
     Next(Progress),
 }
 
 // All records: the first fault's number and place, or the progress at the end.
-#[derive(Drop)]
+#[derive(Clone, Copy)]
 pub enum Scanned {
     Refused(u8, usize),
     Whole(Progress),

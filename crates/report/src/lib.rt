@@ -1,4 +1,6 @@
 // Texts and numbers put into a lent buffer, and the evening program's lines.
+#![tactic(auto)]
+
 ghost use Rattle.std.specs.Prelude.{◌+◌, ◌≤◌, ◌++◌, length};
 ghost use Rattle.report.specs.Text.{decimal, Puts};
 ghost use Rattle.syntax.specs.Reading.{read_kb};

@@ -6,7 +6,7 @@ use flattening::parts::flatten;
 use records::{Progress, Scanned, scan};
 
 // What reading a sheet found: a fault and its place, or fault 0 and the counts of records, names, roles and parts.
-#[derive(Drop)]
+#[derive(Clone, Copy)]
 pub struct Admitted {
     pub fault: u8,
     pub place: usize,

@@ -1,4 +1,6 @@
 // Knowledge bases in ALCIb: reading a sheet, listing its parts, and the flattened knowledge base for the layers above.
+#![tactic(auto)]
+
 ghost use Rattle.std.specs.Prelude.{◌≡◌, ◌+◌, ◌*◌, ◌≤◌, ◌++◌, length, take, drop};
 ghost use Rattle.syntax.specs.Reading.{read_kb};
 ghost use Rattle.syntax.specs.Answers.{limit, read_says};
@@ -16,7 +18,7 @@ pub mod truth;
 // Parts and roles together are at most this many: document 01's limit on c + L.
 pub(crate) const LIMIT: usize = 12;
 
-#[derive(Drop)]
+#[derive(Clone, Copy)]
 pub enum ReadAnswer {
     // A refusal's number and place.
     Refused(u8, usize),
@@ -36,7 +38,7 @@ pub fn read(sheet: &[u8]) -> ReadAnswer
     ReadAnswer::Read(a.names, a.roles, a.parts)
 }
 
-#[derive(Drop)]
+#[derive(Clone, Copy)]
 pub enum ListAnswer {
     // A refusal's number and place.
     Refused(u8, usize),
