@@ -81,7 +81,7 @@ left-through {F} {done} (p ∷ ps) q {so} l =
     let w : Walked = walk_pending p so in
     let so' : List Part = so ++ w.parts in
     let n : Left shared F (done ++ (w.flat ∷ [])) (ps ++ (q ++ w.later)) so' = rw (← append_assoc ps q w.later) (left_step l) in
-    let m = left-through ps (q ++ w.later) n in
+    let m = left-through {done = done ++ (w.flat ∷ [])} ps (q ++ w.later) n in
     rw (turns_append (length so) w.parts (through ps so'), ← pending_later p so, ← length-append so w.parts, ← append_assoc q, ← append_assoc done (w.flat ∷ []) (flats_through ps so'), ← append_assoc so w.parts (through ps so')) m
 
 -- names put nothing on the queue

@@ -20,7 +20,7 @@ pub const ROLE_WORDS: usize = 80;
 
 // How many parts and roles there are; each part's kind (0 name, 1 fresh, 2 existential, 3 universal), and the filler of a
 // restriction (a part, EVERYTHING or NOTHING).
-#[derive(Drop)]
+#[derive(Clone, Copy)]
 pub struct Parts {
     pub count: usize,
     pub roles: usize,

@@ -1,0 +1,7 @@
+use mathlib.Core.Path.{sym}
+use lib.ListN.{get_or-eq_default}
+use borrow.Author.Rules.{rules}
+use Rattle.records.proofs.byte_at.Goals as goal
+
+pub returns : goal.returns
+returns c = sym (get_or-eq_default c.args.sheet.now 0 c.if-i-sheet.false)
