@@ -1,0 +1,18 @@
+use borrow.Author.Rules.{rules}
+use mathlib.Core.Path.{◌≡◌}
+use mathlib.Core.Logic.{inl, inr, ⊎_elim}
+use Prim.Native.Nat.{◌-◌, ◌^◌, ◌≤◌}
+use native.Mathlib.Omega.{arith}
+use Rattle.semantics.specs.Dominoes.{number}
+use Rattle.semantics.specs.Conditions.{defective}
+use Rattle.domino_conditions.specs.Tables.{view}
+use Rattle.domino_settling.specs.Sweeps.{Passed}
+use Rattle.domino_conditions.proofs.Rows.{row_at, number-zero, last_row}
+use Rattle.domino_settling.proofs.Passed.{pass-none, pass_on}
+use Rattle.domino_settling.proofs.settling.sweep.Given as goal
+
+abbrev pub invariant-loop-a : goal.invariant-loop-a
+invariant-loop-a l = (l.a ≤ l.labels) × Passed (view l.p l.role l.good) (defective (view l.p l.role l.good)) 0 (number l.p.count l.p.roles l.a 0 0) l.initial.set l.set l.moved
+
+abbrev pub decreases-loop-a : goal.decreases-loop-a
+decreases-loop-a l = l.labels - l.a
