@@ -1,0 +1,19 @@
+-- The kit's digits of the number, put as a text.
+use Rattle.report.proofs.Decimals.{digits_decimal, few-digits}
+use mathlib.Core.Path.{◌∙◌}
+use native.Mathlib.Omega.{arith}
+use borrow.Author.Rules.{rules}
+use Rattle.report.proofs.put_number.Goals as goal
+
+pub put_text-requires : goal.put_text-requires
+put_text-requires c = let written = c.decimal-k.ensures in
+    let few = few-digits c.args.n _ (search rules) written.1.0 in
+    omega (arith, written.0.1)
+
+pub returns : goal.returns
+returns c = let n = c.args.n in
+    let k = c.decimal-k.result in
+    let written = c.decimal-k.ensures in
+    let e = written.1.1 ∙ digits_decimal n k written.1.0 in
+    let few = few-digits n k (search rules) written.1.0 in
+    (rw (← e) c.put_text.ensures, omega (arith, c.put_text.ensures.answer, written.0.1))
