@@ -1,7 +1,7 @@
 -- Texts as bytes.
 use Rattle.std.specs.Prelude.{ℕ, List, [], ◌∷◌}
 use Prim.Native.Char.{code}
-use Prim.Native.String.{String, [] as no_more, ◌∷◌ as ◌andThen◌}
+use Prim.Native.String.{String, [] as no_more, ◌∷◌ as ◌and_then◌}
 
 -- a text in ASCII, a byte a character
 unfoldable pub text : String → List ℕ

@@ -1,7 +1,7 @@
 -- Texts and numbers as bytes, and what it is to put bytes into a buffer.
 use Rattle.std.specs.Prelude.{ℕ, zero, suc, ◌+◌, ◌/◌, ◌%◌, ◌≤◌, ◌≡◌, cond, List, [], ◌∷◌, ◌++◌, ltb, length, take, drop}
 use Prim.Native.Char.{code}
-use Prim.Native.String.{String, [] as no_more, ◌∷◌ as ◌andThen◌}
+use Prim.Native.String.{String, [] as no_more, ◌∷◌ as ◌and_then◌}
 
 -- a text in ASCII, a byte a character
 unfoldable pub text : String → List ℕ
