@@ -1,4 +1,6 @@
-use borrow.Author.Rules.{rules}
+use mathlib.Core.Path.{ap}
+use mathlib.Core.Bool.{not}
+use native.Mathlib.Omega.{arith}
 use lib.ListN.{length}
 use Rattle.bitset.specs.Bits.{look}
 use Rattle.domino_conditions.proofs.Defects.{at_of, label-few, sets_few, row_here, roles_here, converse_here, member_here, fails-1, fails-2, fails-3, fails-row, fails-6, fails-none}
@@ -15,7 +17,7 @@ returns-then-not-is_good c = let t =
     at_of c.args.p.count c.args.p.roles c.args.n _ _ _ c.left_of-a.ensures
     c.roles_of-r.ensures c.right_of-b.ensures in
     fails-1 c.args.p c.args.role.now c.args.good.now (look c.args.set.now) c.args.n _ _ _ t
-    c.is_good.result c.is_good.ensures c.if-not-is_good.true
+    c.is_good.result c.is_good.ensures (ap not c.if-not-is_good.true)
 
 pub right_fits-requires : goal.right_fits-requires
 right_fits-requires c = let t =
@@ -28,8 +30,8 @@ returns-then-not-right_fits c = let t =
     at_of c.args.p.count c.args.p.roles c.args.n _ _ _ c.left_of-a.ensures
     c.roles_of-r.ensures c.right_of-b.ensures in
     fails-2 c.args.p c.args.role.now c.args.good.now (look c.args.set.now) c.args.n _ _ _ t
-    c.is_good.result c.is_good.ensures c.if-not-is_good.false
-    c.right_fits.result c.right_fits.ensures c.if-not-right_fits.true
+    c.is_good.result c.is_good.ensures (ap not c.if-not-is_good.false)
+    c.right_fits.result c.right_fits.ensures (ap not c.if-not-right_fits.true)
 
 pub right_fits-requires-2 : goal.right_fits-requires-2
 right_fits-requires-2 c = let t =
@@ -42,9 +44,9 @@ returns-then-not-right_fits-2 c = let t =
     at_of c.args.p.count c.args.p.roles c.args.n _ _ _ c.left_of-a.ensures
     c.roles_of-r.ensures c.right_of-b.ensures in
     fails-3 c.args.p c.args.role.now c.args.good.now (look c.args.set.now) c.args.n _ _ _ t
-    c.is_good.result c.is_good.ensures c.if-not-is_good.false
-    c.right_fits.result c.right_fits.ensures c.if-not-right_fits.false
-    c.right_fits-2.result c.right_fits-2.ensures c.if-not-right_fits-2.true
+    c.is_good.result c.is_good.ensures (ap not c.if-not-is_good.false)
+    c.right_fits.result c.right_fits.ensures (ap not c.if-not-right_fits.false)
+    c.right_fits-2.result c.right_fits-2.ensures (ap not c.if-not-right_fits-2.true)
 
 pub row_defect-d-requires : goal.row_defect-d-requires
 row_defect-d-requires c = let t =
@@ -57,9 +59,9 @@ returns-then-d-ne0 c = let t =
     at_of c.args.p.count c.args.p.roles c.args.n _ _ _ c.left_of-a.ensures
     c.roles_of-r.ensures c.right_of-b.ensures in
     fails-row c.args.p c.args.role.now c.args.good.now (look c.args.set.now) c.args.n _ _ _ t
-    c.is_good.result c.is_good.ensures c.if-not-is_good.false
-    c.right_fits.result c.right_fits.ensures c.if-not-right_fits.false
-    c.right_fits-2.result c.right_fits-2.ensures c.if-not-right_fits-2.false
+    c.is_good.result c.is_good.ensures (ap not c.if-not-is_good.false)
+    c.right_fits.result c.right_fits.ensures (ap not c.if-not-right_fits.false)
+    c.right_fits-2.result c.right_fits-2.ensures (ap not c.if-not-right_fits-2.false)
     c.row_defect-d.result c.row_defect-d.ensures c.if-d-ne0.true
 
 pub inverse-requires : goal.inverse-requires
@@ -85,10 +87,10 @@ returns-then-matched c = let t =
     at_of c.args.p.count c.args.p.roles c.args.n _ _ _ c.left_of-a.ensures
     c.roles_of-r.ensures c.right_of-b.ensures in
     fails-none c.args.p c.args.role.now c.args.good.now (look c.args.set.now) c.args.n _ _ _ t
-    c.is_good.result c.is_good.ensures c.if-not-is_good.false
-    c.right_fits.result c.right_fits.ensures c.if-not-right_fits.false
-    c.right_fits-2.result c.right_fits-2.ensures c.if-not-right_fits-2.false
-    c.row_defect-d.result c.row_defect-d.ensures c.if-d-ne0.false _ _ c.inverse.ensures
+    c.is_good.result c.is_good.ensures (ap not c.if-not-is_good.false)
+    c.right_fits.result c.right_fits.ensures (ap not c.if-not-right_fits.false)
+    c.right_fits-2.result c.right_fits-2.ensures (ap not c.if-not-right_fits-2.false)
+    c.row_defect-d.result c.row_defect-d.ensures (omega arith) _ _ c.inverse.ensures
     c.index.ensures c.member-matched.result c.member-matched.ensures c.if-matched.true
 
 pub returns-else-matched : goal.returns-else-matched
@@ -96,8 +98,8 @@ returns-else-matched c = let t =
     at_of c.args.p.count c.args.p.roles c.args.n _ _ _ c.left_of-a.ensures
     c.roles_of-r.ensures c.right_of-b.ensures in
     fails-6 c.args.p c.args.role.now c.args.good.now (look c.args.set.now) c.args.n _ _ _ t
-    c.is_good.result c.is_good.ensures c.if-not-is_good.false
-    c.right_fits.result c.right_fits.ensures c.if-not-right_fits.false
-    c.right_fits-2.result c.right_fits-2.ensures c.if-not-right_fits-2.false
-    c.row_defect-d.result c.row_defect-d.ensures c.if-d-ne0.false _ _ c.inverse.ensures
+    c.is_good.result c.is_good.ensures (ap not c.if-not-is_good.false)
+    c.right_fits.result c.right_fits.ensures (ap not c.if-not-right_fits.false)
+    c.right_fits-2.result c.right_fits-2.ensures (ap not c.if-not-right_fits-2.false)
+    c.row_defect-d.result c.row_defect-d.ensures (omega arith) _ _ c.inverse.ensures
     c.index.ensures c.member-matched.result c.member-matched.ensures c.if-matched.false

@@ -1,4 +1,3 @@
-use borrow.Author.Rules.{rules}
 use borrow.Author.Tests.{lt-ltb, le-ltb}
 use Rattle.domino_conditions.specs.Tables.{filler_in_label_lem}
 use Rattle.domino_conditions.proofs.conditions.filler_in_label.Goals as goal

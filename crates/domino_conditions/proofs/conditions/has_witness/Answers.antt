@@ -1,20 +1,13 @@
 -- No role set before r, and no right label before b of the run r, gives a witness.
 use borrow.Author.Rules.{rules}
-use mathlib.Core.Path.{◌≡◌, refl, sym, ◌∙◌}
-use mathlib.Core.Bool.{false}
-use mathlib.Core.List.{[]}
-use mathlib.Core.Logic.{⊎_elim}
-use Prim.Native.Nat.{◌+◌, ◌-◌, ◌*◌, ◌/◌, ◌%◌, ◌≤◌}
+use mathlib.Core.Path.{refl, sym, ◌∙◌}
 use native.Mathlib.Omega.{arith}
-use lib.ListN.{get_or}
-use Rattle.bitset.specs.Bits.{bit, look}
-use Rattle.elimination.specs.Sets.{some}
 use Rattle.elimination.proofs.Quantifiers.{some-none, some_more}
-use Rattle.domino_conditions.specs.Tables.{filler_in_label_lem, search_view}
-use Rattle.domino_conditions.specs.Polarity.{as_wanted_lem}
+use Rattle.domino_conditions.specs.Tables.{search_view}
 use Rattle.domino_conditions.proofs.Rows.{sets_are, few_sets, first_run, run_room}
-use Rattle.domino_conditions.proofs.Witnesses.{is_witness_lem, witness-by, witness_more, run_has_witness, in_none, in_end, in_hit, found_none, found_hit}
+use Rattle.domino_conditions.proofs.Witnesses.{witness-by, witness_more, in_none, in_end, in_hit, found_none, found_hit}
 use Rattle.domino_conditions.proofs.conditions.has_witness.Goals as goal
+use Rattle.domino_conditions.proofs.conditions.has_witness.Goals.{then-role_holds_on+else-loop-b-test, else-role_holds_on}
 
 pub overflow_add-l : goal.overflow_add-l
 overflow_add-l c = omega (arith, c.requires.0.few)
@@ -52,12 +45,15 @@ loop-b-preserved c = (
 pub search-preserved : goal.search-preserved
 search-preserved c = (
   search rules,
-  ⊎_elim (λ w. w.4 ∙ w.2.inv.1) (λ w. w.1 ∙ c.search.invariant.1) c.if-role_holds_on.branch,
+  elim c.if-role_holds_on.branch [
+    | then-role_holds_on+else-loop-b-test w ↦ w.found-is ∙ w.loop-b.invariant.1
+    | else-role_holds_on w ↦ w.found-is ∙ c.search.invariant.1
+  ],
   some_more _ _ c.search.invariant.2
-      (⊎_elim
-      (λ w. in_end _ _ _ _ _ _ _ _ _ c.pow-labels.ensures w.2.inv.0 w.3.false w.2.inv.2)
-      (λ w. in_none _ _ _ _ _ _ _ _ c.role_holds_on.ensures w.0.false)
-      c.if-role_holds_on.branch),
+      (elim c.if-role_holds_on.branch [
+        | then-role_holds_on+else-loop-b-test w ↦ in_end _ _ _ _ _ _ _ _ _ c.pow-labels.ensures w.loop-b.invariant.0 w.loop-b-test.false w.loop-b.invariant.2
+        | else-role_holds_on w ↦ in_none _ _ _ _ _ _ _ _ c.role_holds_on.ensures w.if-role_holds_on.false
+      ]),
 )
 
 pub returns-after-search : goal.returns-after-search

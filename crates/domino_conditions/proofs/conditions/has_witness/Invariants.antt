@@ -1,19 +1,13 @@
 -- No role set before r, and no right label before b of the run r, gives a witness.
-use borrow.Author.Rules.{rules}
-use mathlib.Core.Path.{◌≡◌, refl, sym, ◌∙◌}
+use mathlib.Core.Path.{◌≡◌}
 use mathlib.Core.Bool.{false}
-use mathlib.Core.List.{[]}
-use mathlib.Core.Logic.{⊎_elim}
 use Prim.Native.Nat.{◌+◌, ◌-◌, ◌*◌, ◌/◌, ◌%◌, ◌≤◌}
-use native.Mathlib.Omega.{arith}
 use lib.ListN.{get_or}
 use Rattle.bitset.specs.Bits.{bit, look}
 use Rattle.elimination.specs.Sets.{some}
-use Rattle.elimination.proofs.Quantifiers.{some-none, some_more}
-use Rattle.domino_conditions.specs.Tables.{filler_in_label_lem, search_view}
+use Rattle.domino_conditions.specs.Tables.{filler_in_label_lem}
 use Rattle.domino_conditions.specs.Polarity.{as_wanted_lem}
-use Rattle.domino_conditions.proofs.Rows.{sets_are, few_sets, first_run, run_room}
-use Rattle.domino_conditions.proofs.Witnesses.{is_witness_lem, witness-by, witness_more, run_has_witness, in_none, in_end, in_hit, found_none, found_hit}
+use Rattle.domino_conditions.proofs.Witnesses.{is_witness_lem, run_has_witness}
 use Rattle.domino_conditions.proofs.conditions.has_witness.Given as goal
 
 abbrev pub invariant-loop-b : goal.invariant-loop-b

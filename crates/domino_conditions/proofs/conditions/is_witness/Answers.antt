@@ -1,5 +1,4 @@
 -- The label is tested, then the number.
-use borrow.Author.Rules.{rules}
 use mathlib.Core.Path.{sym, ap, ◌∙◌}
 use Rattle.domino_conditions.specs.Polarity.{as_wanted_lem}
 use Rattle.bitset.proofs.Facts.{and_went, and_stopped}

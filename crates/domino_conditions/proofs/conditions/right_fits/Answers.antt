@@ -1,15 +1,14 @@
 use borrow.Author.Rules.{rules}
 use mathlib.Core.Path.{refl}
 use mathlib.Core.List.{[]}
-use mathlib.Core.Logic.{⊎_elim}
-use Prim.Native.Nat.{◌-◌, ◌≤◌}
 use native.Mathlib.Omega.{arith}
 use Rattle.domino_conditions.specs.Tables.{view}
-use Rattle.domino_conditions.proofs.Polarity.{breaks-none, breaks_last, FitsTo, fits-none, fits_more, fits_stop, fits_end}
+use Rattle.domino_conditions.proofs.Polarity.{breaks-none, breaks_last, fits-none, fits_more, fits_stop, fits_end}
 use Rattle.domino_conditions.proofs.conditions.right_fits.Goals as goal
+use Rattle.domino_conditions.proofs.conditions.right_fits.Goals.{then-asks_of_right+else-as_wanted, else-asks_of_right}
 
 pub loop-k-init : goal.loop-k-init
-loop-k-init c = (omega arith, fits-none (view c.args.t1 c.args.role.now []) c.args.want c.args.a c.args.r c.args.b)
+loop-k-init c = (omega arith, fits-none (view c.args.p c.args.role.now []) c.args.want c.args.a c.args.r c.args.b)
 
 pub bounds-p-k : goal.bounds-p-k
 bounds-p-k c = omega (arith, c.requires.0.within)
@@ -30,24 +29,25 @@ pub as_wanted-requires : goal.as_wanted-requires
 as_wanted-requires c = tt
 
 pub returns-then-as_wanted : goal.returns-then-as_wanted
-returns-then-as_wanted c = let v = view c.args.t1 c.args.role.now [] in
+returns-then-as_wanted c = let v = view c.args.p c.args.role.now [] in
     fits_stop v _ c.args.a c.args.r c.args.b _ _ c.loop-k-test.true
-    (breaks_last v _ c.args.a _ c.args.r c.args.b _ _ _ (c.asks_of_right.ensures c.args.t1 refl) c.if-asks_of_right.true
+    (breaks_last v _ c.args.a _ c.args.r c.args.b _ _ _ (c.asks_of_right.ensures c.args.p refl) c.if-asks_of_right.true
     c.filler_in_label.ensures c.as_wanted.ensures)
     c.if-as_wanted.true
 
 pub loop-k-preserved : goal.loop-k-preserved
-loop-k-preserved c = let v = view c.args.t1 c.args.role.now [] in
-    let e = c.asks_of_right.ensures c.args.t1 refl in (
+loop-k-preserved c = let v = view c.args.p c.args.role.now [] in
+    let e = c.asks_of_right.ensures c.args.p refl in (
       search rules,
-      ⊎_elim
-          (λ w. fits_more v _ c.args.a c.args.r c.args.b _ _ c.loop-k.invariant.1
-          (breaks_last v _ c.args.a _ c.args.r c.args.b _ _ _ e w.0.true w.2.ensures w.3.ensures) w.4.false)
-          (λ w. fits_more v _ c.args.a c.args.r c.args.b _ _ c.loop-k.invariant.1
-          (breaks-none v _ c.args.a _ c.args.r c.args.b _ e w.false) refl)
-          c.if-asks_of_right.branch,
+      elim c.if-asks_of_right.branch [
+        | then-asks_of_right+else-as_wanted w ↦ fits_more v _ c.args.a c.args.r c.args.b _ _ c.loop-k.invariant.1
+            (breaks_last v _ c.args.a _ c.args.r c.args.b _ _ _ e w.if-asks_of_right.true w.filler_in_label.ensures w.as_wanted.ensures)
+            w.if-as_wanted.false
+        | else-asks_of_right w ↦ fits_more v _ c.args.a c.args.r c.args.b _ _ c.loop-k.invariant.1
+            (breaks-none v _ c.args.a _ c.args.r c.args.b _ e w.if-asks_of_right.false) refl
+      ],
     )
 
 pub returns : goal.returns
-returns c = fits_end (view c.args.t1 c.args.role.now []) _ c.args.a c.args.r c.args.b _ c.loop-k.invariant.0
+returns c = fits_end (view c.args.p c.args.role.now []) _ c.args.a c.args.r c.args.b _ c.loop-k.invariant.0
     c.loop-k-test.false c.loop-k.invariant.1

@@ -1,11 +1,7 @@
-use borrow.Author.Rules.{rules}
-use mathlib.Core.Path.{refl}
 use mathlib.Core.List.{[]}
-use mathlib.Core.Logic.{⊎_elim}
 use Prim.Native.Nat.{◌-◌, ◌≤◌}
-use native.Mathlib.Omega.{arith}
 use Rattle.domino_conditions.specs.Tables.{view}
-use Rattle.domino_conditions.proofs.Polarity.{breaks-none, breaks_last, FitsTo, fits-none, fits_more, fits_stop, fits_end}
+use Rattle.domino_conditions.proofs.Polarity.{FitsTo}
 use Rattle.domino_conditions.proofs.conditions.right_fits.Given as goal
 
 abbrev pub invariant-loop-k : goal.invariant-loop-k

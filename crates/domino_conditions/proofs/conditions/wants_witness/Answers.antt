@@ -1,4 +1,3 @@
-use borrow.Author.Rules.{rules}
 use mathlib.Core.Path.{sym, ◌∙◌}
 use Rattle.domino_conditions.proofs.Polarity.{wants_other, wants_kind}
 use Rattle.domino_conditions.proofs.conditions.wants_witness.Goals as goal

@@ -1,18 +1,14 @@
 -- `witnessed` meets its contract: no part before k lacks a witness.
 use borrow.Author.Rules.{rules}
-use borrow.Author.Tests.{not-true, not-false}
 use mathlib.Core.Path.{refl, ◌∙◌}
 use mathlib.Core.List.{[]}
-use mathlib.Core.Logic.{⊎_elim}
-use Prim.Native.Nat.{◌-◌, ◌≤◌}
 use native.Mathlib.Omega.{arith}
-use Rattle.bitset.specs.Bits.{look}
 use Rattle.elimination.proofs.Quantifiers.{every-none}
-use Rattle.semantics.specs.Dominoes.{numbered}
 use Rattle.domino_conditions.specs.Tables.{view}
 use Rattle.domino_conditions.proofs.Rows.{row_fit}
-use Rattle.domino_conditions.proofs.Witnesses.{found_view, Served, served_not, served_has, served_stop, served_end}
+use Rattle.domino_conditions.proofs.Witnesses.{found_view, served_not, served_has, served_stop, served_end}
 use Rattle.domino_conditions.proofs.conditions.witnessed.Goals as goal
+use Rattle.domino_conditions.proofs.conditions.witnessed.Goals.{then-wants_witness+else-not-has_witness, else-wants_witness}
 
 pub loop-k-init : goal.loop-k-init
 loop-k-init c = (omega arith, every-none _)
@@ -33,18 +29,18 @@ pub has_witness-requires : goal.has_witness-requires
 has_witness-requires c = (row_fit _ _ _ c.requires, omega (arith, c.requires.sized.within))
 
 pub returns-then-not-has_witness : goal.returns-then-not-has_witness
-returns-then-not-has_witness c = let v = view c.args.t2 c.args.role.now [] in
+returns-then-not-has_witness c = let v = view c.args.p c.args.role.now [] in
     served_stop v _ _ c.args.a _ _ _ c.loop-k-test.true (c.wants_witness.ensures v refl) c.if-wants_witness.true
-    (c.has_witness.ensures ∙ found_view c.args.t2 c.args.role.now _ _ _ _) (not-true _ c.if-not-has_witness.true)
+    (c.has_witness.ensures ∙ found_view c.args.p c.args.role.now _ _ _ _) c.if-not-has_witness.true
 
 pub loop-k-preserved : goal.loop-k-preserved
-loop-k-preserved c = let v = view c.args.t2 c.args.role.now [] in (
+loop-k-preserved c = let v = view c.args.p c.args.role.now [] in (
   search rules,
-  ⊎_elim
-      (λ w. served_has v _ _ _ _ _ c.loop-k.invariant.1 (w.2.ensures ∙ found_view c.args.t2 c.args.role.now _ _ _ _)
-      (not-false _ w.3.false))
-      (λ w. served_not v _ _ _ _ _ c.loop-k.invariant.1 (c.wants_witness.ensures v refl) w.false)
-      c.if-wants_witness.branch,
+  elim c.if-wants_witness.branch [
+    | then-wants_witness+else-not-has_witness w ↦ served_has v _ _ _ _ _ c.loop-k.invariant.1
+        (w.has_witness.ensures ∙ found_view c.args.p c.args.role.now _ _ _ _) w.if-not-has_witness.false
+    | else-wants_witness w ↦ served_not v _ _ _ _ _ c.loop-k.invariant.1 (c.wants_witness.ensures v refl) w.if-wants_witness.false
+  ],
 )
 
 pub returns : goal.returns

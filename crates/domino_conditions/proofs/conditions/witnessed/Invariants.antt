@@ -1,17 +1,10 @@
 -- `witnessed` meets its contract: no part before k lacks a witness.
-use borrow.Author.Rules.{rules}
-use borrow.Author.Tests.{not-true, not-false}
-use mathlib.Core.Path.{refl, ◌∙◌}
 use mathlib.Core.List.{[]}
-use mathlib.Core.Logic.{⊎_elim}
 use Prim.Native.Nat.{◌-◌, ◌≤◌}
-use native.Mathlib.Omega.{arith}
 use Rattle.bitset.specs.Bits.{look}
-use Rattle.elimination.proofs.Quantifiers.{every-none}
 use Rattle.semantics.specs.Dominoes.{numbered}
 use Rattle.domino_conditions.specs.Tables.{view}
-use Rattle.domino_conditions.proofs.Rows.{row_fit}
-use Rattle.domino_conditions.proofs.Witnesses.{found_view, Served, served_not, served_has, served_stop, served_end}
+use Rattle.domino_conditions.proofs.Witnesses.{Served}
 use Rattle.domino_conditions.proofs.conditions.witnessed.Given as goal
 
 abbrev pub invariant-loop-k : goal.invariant-loop-k

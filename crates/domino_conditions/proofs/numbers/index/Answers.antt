@@ -1,4 +1,3 @@
-use borrow.Author.Rules.{rules}
 use native.Mathlib.Omega.{arith}
 use Rattle.domino_conditions.proofs.Shifts.{index_is, index_fits}
 use Rattle.domino_conditions.proofs.numbers.index.Goals as goal

@@ -1,4 +1,3 @@
-use borrow.Author.Rules.{rules}
 use mathlib.Core.Path.{ap}
 use Prim.Native.Nat.{ℕ, ◌+◌, ◌/◌, ◌^◌}
 use Rattle.semantics.specs.Dominoes.{left_of}

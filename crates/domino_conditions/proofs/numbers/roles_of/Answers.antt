@@ -1,4 +1,3 @@
-use borrow.Author.Rules.{rules}
 use lib.Bits.{and_mask}
 use lib.Pow.{pow_pos}
 use Rattle.semantics.specs.Dominoes.{roles_of}

@@ -1,4 +1,3 @@
-use borrow.Author.Rules.{rules}
 use mathlib.Core.Path.{ap, ◌∙◌}
 use Rattle.bitset.specs.Bits.{words_for_lem}
 use Rattle.domino_conditions.proofs.Shifts.{total-is}
