@@ -1,6 +1,5 @@
 -- The record's word stands right after those counted.
 use mathlib.Core.Path.{refl}
-use borrow.Author.Rules.{rules}
 use Rattle.records.proofs.Entries.{seen-append}
 use Rattle.records.proofs.append.Goals as goal
 

@@ -1,5 +1,4 @@
 use borrow.Author.Tests.{le-leb, lt-leb}
-use borrow.Author.Rules.{rules}
 use Rattle.records.proofs.body_byte.Goals as goal
 
 pub returns-then-i-s : goal.returns-then-i-s

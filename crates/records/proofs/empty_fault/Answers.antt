@@ -1,4 +1,3 @@
-use borrow.Author.Rules.{rules}
 use Rattle.records.specs.Scan.{empty_fault_lem}
 use Rattle.records.proofs.empty_fault.Goals as goal
 

@@ -1,5 +1,4 @@
 use mathlib.Core.Path.{refl}
-use borrow.Author.Rules.{rules}
 use Rattle.records.specs.RecordTable.{entry_of}
 use Rattle.records.proofs.entry_of.Goals as goal
 

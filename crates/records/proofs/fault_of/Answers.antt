@@ -1,6 +1,5 @@
 use mathlib.Core.Path.{◌∙◌}
 use Rattle.records.proofs.Faults.{told_first, told_second, told_own}
-use borrow.Author.Rules.{rules}
 use Rattle.records.proofs.fault_of.Goals as goal
 
 pub returns-then-c-eq-FIRST : goal.returns-then-c-eq-FIRST

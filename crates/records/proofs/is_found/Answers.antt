@@ -1,6 +1,5 @@
 use Rattle.records.proofs.Entries.{seen-within, seen-short}
 use Rattle.records.proofs.Faults.{found_none, found_past, found_other, found_named, found_free}
-use borrow.Author.Rules.{rules}
 use Rattle.records.proofs.is_found.Goals as goal
 
 pub returns-then-sort-eq0 : goal.returns-then-sort-eq0

@@ -1,6 +1,5 @@
 -- Only a record that is there is named; its word is written anew.
 use mathlib.Core.Path.{sym}
-use borrow.Author.Rules.{rules}
 use Rattle.records.proofs.Faults.{name-none, name-past, name-at}
 use Rattle.records.proofs.name_record.Goals as goal
 

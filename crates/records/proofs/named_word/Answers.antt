@@ -1,5 +1,4 @@
 use Rattle.records.proofs.Entries.{word-named}
-use borrow.Author.Rules.{rules}
 use Rattle.records.proofs.named_word.Goals as goal
 
 pub returns : goal.returns

@@ -1,5 +1,4 @@
 use borrow.Author.Tests.{eq-eqb, ne_eqb}
-use borrow.Author.Rules.{rules}
 use Rattle.records.specs.Scan.{names_after_lem}
 use Rattle.records.proofs.names_after.Goals as goal
 

@@ -1,6 +1,5 @@
 -- A record that is there, or a blank one.
 use mathlib.Core.Path.{sym, ◌∙◌}
-use borrow.Author.Rules.{rules}
 use Rattle.records.proofs.Entries.{seen_at, seen-past}
 use Rattle.records.proofs.record_at.Goals as goal
 

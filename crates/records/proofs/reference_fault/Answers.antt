@@ -1,7 +1,6 @@
 use mathlib.Core.Path.{◌∙◌}
 use Rattle.records.proofs.Entries.{seen-within, seen-short}
 use Rattle.records.proofs.Faults.{reference-none, reference-past, reference-within}
-use borrow.Author.Rules.{rules}
 use Rattle.records.proofs.reference_fault.Goals as goal
 
 pub returns-then-sort-eq0 : goal.returns-then-sort-eq0

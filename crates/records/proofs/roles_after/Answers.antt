@@ -1,5 +1,4 @@
 use borrow.Author.Tests.{eq-eqb, ne_eqb}
-use borrow.Author.Rules.{rules}
 use Rattle.records.specs.Scan.{roles_after_lem}
 use Rattle.records.proofs.roles_after.Goals as goal
 

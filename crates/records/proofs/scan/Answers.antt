@@ -1,9 +1,6 @@
 -- The invariant: scanning on from here gives the whole result. The measure is what is left of the sheet.
-use Prim.Native.Nat.{◌-◌}
-use lib.ListN.{length}
 use native.Mathlib.Omega.{arith}
-use borrow.Author.Rules.{rules}
-use Rattle.records.proofs.Scanning.{Running, running_start, running_full, running_fault, running_next, running_end, later}
+use Rattle.records.proofs.Scanning.{running_start, running_full, running_fault, running_next, running_end, later}
 use Rattle.records.proofs.scan.Goals as goal
 
 pub loop-p-init : goal.loop-p-init
@@ -13,7 +10,7 @@ pub returns-then-p-eq255 : goal.returns-then-p-eq255
 returns-then-p-eq255 c = running_full _ _ _ c.loop-p.invariant c.loop-p-test.true c.if-p-eq255.true
 
 pub returns-in-Faulty : goal.returns-in-Faulty
-returns-in-Faulty c = running_fault _ _ _ c.loop-p.invariant _ _ _ (rw c.s-1.given.1 at c.step-s.ensures) c.fault_of-f.ensures c.loop-p-test.true c.if-p-eq255.false
+returns-in-Faulty c = running_fault _ _ _ c.loop-p.invariant _ _ _ (rw c.in-Faulty.is at c.step-s.ensures) c.fault_of-f.ensures c.loop-p-test.true c.if-p-eq255.false
 
 pub loop-p-smaller : goal.loop-p-smaller
 loop-p-smaller c = omega (arith, c.loop-p-test.true, later _ _ _ _ _ (rw c.in-Next.is at c.step-s.ensures))

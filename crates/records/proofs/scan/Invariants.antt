@@ -1,9 +1,7 @@
 -- The invariant: scanning on from here gives the whole result. The measure is what is left of the sheet.
 use Prim.Native.Nat.{◌-◌}
 use lib.ListN.{length}
-use native.Mathlib.Omega.{arith}
-use borrow.Author.Rules.{rules}
-use Rattle.records.proofs.Scanning.{Running, running_start, running_full, running_fault, running_next, running_end, later}
+use Rattle.records.proofs.Scanning.{Running}
 use Rattle.records.proofs.scan.Given as goal
 
 abbrev pub invariant-loop-p : goal.invariant-loop-p

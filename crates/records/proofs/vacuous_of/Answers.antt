@@ -1,7 +1,6 @@
 use mathlib.Core.Path.{refl, ap, sym, ◌∙◌}
 use mathlib.Core.Bool.{Bool, ◌&&◌, ◌||◌}
 use Rattle.records.proofs.Faults.{vacuous_not, vacuous_and, vacuous_or, vacuous_none}
-use borrow.Author.Rules.{rules}
 use Rattle.records.proofs.vacuous_of.Goals as goal
 
 pub returns-then-k-eq18 : goal.returns-then-k-eq18

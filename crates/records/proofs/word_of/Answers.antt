@@ -1,6 +1,5 @@
 use native.Mathlib.Omega.{arith}
 use Rattle.records.proofs.Entries.{word_entry}
-use borrow.Author.Rules.{rules}
 use Rattle.records.proofs.word_of.Goals as goal
 
 pub returns : goal.returns
