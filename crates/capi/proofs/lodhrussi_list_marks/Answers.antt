@@ -1,6 +1,5 @@
 -- What list marks says is returned and written; the list is as it leaves it.
 use mathlib.Core.Path.{ap}
-use borrow.Author.Rules.{rules}
 use Rattle.tbox.specs.Answers.{list_numbers}
 use Rattle.capi.specs.Out.{result_out, place_out}
 use Rattle.capi.proofs.Laws.{said, place-said}
@@ -10,10 +9,10 @@ pub returns-in-Refused : goal.returns-in-Refused
 unfolding list_numbers place_out
 returns-in-Refused c = let h = c.list_marks-a.ensures in
     let e = said list_numbers _ _ _ c.in-Refused.is h.answer in
-    (ap result_out e, (place-said _ _ _ e, h.list))
+    record { value = ap result_out e; place_after = place-said _ _ _ e; list_after = h.list }
 
 pub returns-in-Listed : goal.returns-in-Listed
 unfolding list_numbers place_out
 returns-in-Listed c = let h = c.list_marks-a.ensures in
     let e = said list_numbers _ _ _ c.in-Listed.is h.answer in
-    (ap result_out e, (place-said _ _ _ e, h.list))
+    record { value = ap result_out e; place_after = place-said _ _ _ e; list_after = h.list }

@@ -1,6 +1,5 @@
 -- A verdict's number is written, and the condition when struck.
 use mathlib.Core.Path.{sym}
-use borrow.Author.Rules.{rules}
 use Rattle.domino.specs.Answers.{verdict_numbers}
 use Rattle.capi.proofs.Laws.{value_of}
 use Rattle.capi.proofs.put_verdict.Goals as goal
@@ -8,14 +7,14 @@ use Rattle.capi.proofs.put_verdict.Goals as goal
 pub returns-in-Absent : goal.returns-in-Absent
 unfolding verdict_numbers
 returns-in-Absent c = let e = c.in-Absent.is in
-    (value_of 0 verdict_numbers _ _ _ (sym e), value_of 1 verdict_numbers _ _ _ (sym e))
+    record { verdict_after = value_of 0 verdict_numbers _ _ _ (sym e); condition_after = value_of 1 verdict_numbers _ _ _ (sym e) }
 
 pub returns-in-Struck : goal.returns-in-Struck
 unfolding verdict_numbers
 returns-in-Struck c = let e = c.in-Struck.is in
-    (value_of 0 verdict_numbers _ _ _ (sym e), value_of 1 verdict_numbers _ _ _ (sym e))
+    record { verdict_after = value_of 0 verdict_numbers _ _ _ (sym e); condition_after = value_of 1 verdict_numbers _ _ _ (sym e) }
 
 pub returns-in-Kept : goal.returns-in-Kept
 unfolding verdict_numbers
-returns-in-Kept c = let e = c.enum_told-in-Kept-1.given.1 in
-    (value_of 0 verdict_numbers _ _ _ (sym e), value_of 1 verdict_numbers _ _ _ (sym e))
+returns-in-Kept c = let e = c.in-Kept.is in
+    record { verdict_after = value_of 0 verdict_numbers _ _ _ (sym e); condition_after = value_of 1 verdict_numbers _ _ _ (sym e) }
