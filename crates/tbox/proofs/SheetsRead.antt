@@ -10,7 +10,7 @@ use Rattle.records.specs.declared.Scanned.TheVariants.{Refused as NotScanned, Wh
 use Rattle.tbox.specs.declared.admission.Admitted.{Admitted}
 use Rattle.tbox.specs.declared.ReadAnswer.TheVariants.{Refused, Read}
 use Rattle.tbox.specs.declared.ListAnswer.TheVariants.{Refused as NotListed, Listed}
-use Rattle.syntax.specs.Reading.{Kb, Reading, refusal, parts_of, admit, reading, read_kb}
+use Rattle.syntax.specs.Reading.{Kb, Reading, parts_of, admit, reading, read_kb}
 use Rattle.tbox.specs.Answers.{read_numbers, list_numbers, Lists}
 use Rattle.syntax.specs.Answers.{read_says, list_says, list_leaves}
 use Rattle.records.specs.RecordTable.{seen, Scans}

@@ -1,6 +1,5 @@
 -- A sheet that is refused, a list that is too short, or the bytes of all parts.
 use native.Mathlib.Omega.{arith}
-use borrow.Author.Rules.{rules}
 use Rattle.tbox.proofs.SheetsRead.{list-refused, list-short, list-whole}
 use Rattle.tbox.proofs.list_marks.Goals as goal
 
@@ -20,7 +19,4 @@ pub write_parts-requires : goal.write_parts-requires
 write_parts-requires c = (omega (arith, c.admit-a.ensures.small c.if-a-ne0.false), omega arith)
 
 pub returns : goal.returns
-returns c = let admit = c.admit-a in
-    let if1 = c.if-a-ne0 in
-    let write-parts = c.write_parts in
-    list-whole _ _ _ _ _ admit.ensures _ if1.false write-parts.ensures.0 (omega arith) (omega arith) _ write-parts.ensures.1
+returns c = list-whole _ _ _ _ _ c.admit-a.ensures _ c.if-a-ne0.false c.write_parts.ensures.parts_len (omega arith) (omega arith) _ c.write_parts.ensures.list_after

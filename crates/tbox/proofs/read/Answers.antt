@@ -1,5 +1,4 @@
 -- A sheet that is refused, or its counts.
-use borrow.Author.Rules.{rules}
 use Rattle.tbox.proofs.SheetsRead.{read-refused, read_whole}
 use Rattle.tbox.proofs.read.Goals as goal
 

@@ -1,5 +1,4 @@
 -- The three bytes, one after the other.
-use borrow.Author.Rules.{rules}
 use Rattle.flattening.specs.PartTable.{slot_bytes}
 use Rattle.tbox.proofs.PartBytes.{three}
 use Rattle.tbox.proofs.write_part.Goals as goal

@@ -1,5 +1,5 @@
 -- The invariant: the slots of the parts before i are written, the rest is kept.
-use Prim.Native.Nat.{ℕ, ◌+◌, ◌-◌, ◌*◌, ◌≤◌}
+use Prim.Native.Nat.{ℕ, ◌+◌, ◌-◌, ◌*◌}
 use mathlib.Core.Path.{◌≡◌, refl, ap, ◌∙◌}
 use mathlib.Core.List.{◌++◌}
 use lib.ListN.{take, drop, length-take, length-drop}

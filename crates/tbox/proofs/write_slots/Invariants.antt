@@ -1,11 +1,9 @@
 -- The invariant: the slots of the parts before i are written, the rest is kept.
-use Prim.Native.Nat.{ℕ, ◌+◌, ◌-◌, ◌*◌, ◌≤◌}
-use mathlib.Core.Path.{◌≡◌, refl, ap, ◌∙◌}
+use Prim.Native.Nat.{◌-◌, ◌*◌, ◌≤◌}
+use mathlib.Core.Path.{◌≡◌}
 use mathlib.Core.List.{◌++◌}
-use lib.ListN.{take, drop, length-take, length-drop}
-use native.Mathlib.Omega.{arith}
+use lib.ListN.{take, drop}
 use Rattle.tbox.specs.ListBytes.{slots_of}
-use Rattle.tbox.proofs.PartBytes.{written_more, written-length}
 use Rattle.tbox.proofs.write_slots.Given as goal
 
 abbrev pub invariant-loop-i : goal.invariant-loop-i

@@ -1,6 +1,5 @@
 -- A name has no filler; a restriction's is in its word, and a fresh one is the next part.
 use Rattle.tbox.proofs.BaseTables.{name-filler, filler-next, filler_there}
-use borrow.Author.Rules.{rules}
 use Rattle.tbox.proofs.base.filler_at.Goals as goal
 
 pub returns-then-word-lt2 : goal.returns-then-word-lt2

@@ -1,15 +1,7 @@
 -- The invariant: the fillers of the parts before i.
 use borrow.Author.Rules.{rules}
-use Prim.Native.Nat.{◌-◌, ◌≤◌}
-use mathlib.Core.Path.{◌≡◌}
-use mathlib.Core.List.{List}
-use lib.ListN.{get_or}
 use native.Mathlib.Omega.{arith}
-use Rattle.records.specs.declared.Entry.{Entry}
-use Rattle.syntax.specs.Flatten.{Part}
-use Rattle.syntax.specs.Parts.{filler_of}
-use Rattle.flattening.specs.PartTable.{Stands}
-use Rattle.flattening.proofs.PartTables.{FilledTo, filled_none, filled_more}
+use Rattle.flattening.proofs.PartTables.{filled_none, filled_more}
 use Rattle.tbox.proofs.base.fillers.Goals as goal
 
 pub loop-i-init : goal.loop-i-init

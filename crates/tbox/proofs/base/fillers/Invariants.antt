@@ -1,15 +1,13 @@
 -- The invariant: the fillers of the parts before i.
-use borrow.Author.Rules.{rules}
 use Prim.Native.Nat.{◌-◌, ◌≤◌}
 use mathlib.Core.Path.{◌≡◌}
 use mathlib.Core.List.{List}
 use lib.ListN.{get_or}
-use native.Mathlib.Omega.{arith}
 use Rattle.records.specs.declared.Entry.{Entry}
 use Rattle.syntax.specs.Flatten.{Part}
 use Rattle.syntax.specs.Parts.{filler_of}
 use Rattle.flattening.specs.PartTable.{Stands}
-use Rattle.flattening.proofs.PartTables.{FilledTo, filled_none, filled_more}
+use Rattle.flattening.proofs.PartTables.{FilledTo}
 use Rattle.tbox.proofs.base.fillers.Given as goal
 
 abbrev pub invariant-loop-i : goal.invariant-loop-i

@@ -1,10 +1,8 @@
 -- The invariant: the kinds of the parts before i.
-use Prim.Native.Nat.{◌-◌, ◌%◌, ◌≤◌}
-use mathlib.Core.Path.{◌≡◌, refl}
-use lib.ListN.{get_or}
+use mathlib.Core.Path.{refl}
 use native.Mathlib.Omega.{arith}
 use borrow.Author.Rules.{rules}
-use Rattle.flattening.proofs.PartTables.{FilledTo, filled_none, filled_more}
+use Rattle.flattening.proofs.PartTables.{filled_none, filled_more}
 use Rattle.tbox.proofs.base.kinds.Goals as goal
 
 pub loop-i-init : goal.loop-i-init

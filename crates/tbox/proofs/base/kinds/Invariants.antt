@@ -1,10 +1,8 @@
 -- The invariant: the kinds of the parts before i.
 use Prim.Native.Nat.{◌-◌, ◌%◌, ◌≤◌}
-use mathlib.Core.Path.{◌≡◌, refl}
+use mathlib.Core.Path.{◌≡◌}
 use lib.ListN.{get_or}
-use native.Mathlib.Omega.{arith}
-use borrow.Author.Rules.{rules}
-use Rattle.flattening.proofs.PartTables.{FilledTo, filled_none, filled_more}
+use Rattle.flattening.proofs.PartTables.{FilledTo}
 use Rattle.tbox.proofs.base.kinds.Given as goal
 
 abbrev pub invariant-loop-i : goal.invariant-loop-i

@@ -1,6 +1,5 @@
 -- A sheet that is refused, or what its tables say of each part.
 use native.Mathlib.Omega.{arith}
-use borrow.Author.Rules.{rules}
 use Rattle.tbox.proofs.SheetsRead.{count-is, stood}
 use Rattle.tbox.proofs.BaseTables.{loads_refused, loads_whole}
 use Rattle.tbox.proofs.base.load.Goals as goal

@@ -1,6 +1,5 @@
 -- A name has no role; a restriction's is that of its record.
 use mathlib.Core.Path.{◌∙◌}
-use borrow.Author.Rules.{rules}
 use Rattle.tbox.proofs.BaseTables.{name-role, role_holds_lem}
 use Rattle.tbox.proofs.base.role_at.Goals as goal
 

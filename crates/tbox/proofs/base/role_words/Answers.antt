@@ -1,15 +1,7 @@
 -- The invariant: the words before j, four for each part.
-use Prim.Native.Nat.{◌-◌, ◌/◌, ◌%◌, ◌≤◌}
-use mathlib.Core.Path.{◌≡◌}
-use lib.ListN.{get_or}
 use native.Mathlib.Omega.{arith}
 use borrow.Author.Rules.{rules}
-use Rattle.bitset.specs.Bits.{word_at}
-use Rattle.syntax.specs.Flatten.{Part}
-use Rattle.syntax.specs.Parts.{role_holds}
-use Rattle.records.specs.RecordTable.{seen}
-use Rattle.flattening.specs.PartTable.{Stands}
-use Rattle.flattening.proofs.PartTables.{FilledTo, filled_none, filled_more}
+use Rattle.flattening.proofs.PartTables.{filled_none, filled_more}
 use Rattle.tbox.proofs.BaseTables.{role_index}
 use Rattle.tbox.proofs.base.role_words.Goals as goal
 

@@ -2,15 +2,12 @@
 use Prim.Native.Nat.{◌-◌, ◌/◌, ◌%◌, ◌≤◌}
 use mathlib.Core.Path.{◌≡◌}
 use lib.ListN.{get_or}
-use native.Mathlib.Omega.{arith}
-use borrow.Author.Rules.{rules}
 use Rattle.bitset.specs.Bits.{word_at}
 use Rattle.syntax.specs.Flatten.{Part}
 use Rattle.syntax.specs.Parts.{role_holds}
 use Rattle.records.specs.RecordTable.{seen}
 use Rattle.flattening.specs.PartTable.{Stands}
-use Rattle.flattening.proofs.PartTables.{FilledTo, filled_none, filled_more}
-use Rattle.tbox.proofs.BaseTables.{role_index}
+use Rattle.flattening.proofs.PartTables.{FilledTo}
 use Rattle.tbox.proofs.base.role_words.Given as goal
 
 abbrev pub invariant-loop-j : goal.invariant-loop-j

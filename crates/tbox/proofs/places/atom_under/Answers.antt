@@ -1,5 +1,4 @@
 -- Under a not, or plainly.
-use borrow.Author.Rules.{rules}
 use Rattle.tbox.proofs.places.atom_under.Goals as goal
 
 pub returns-then-odd : goal.returns-then-odd

@@ -1,10 +1,6 @@
 -- The invariant: the places of the records before r.
-use Prim.Native.Nat.{◌-◌, ◌≤◌}
 use mathlib.Core.Path.{◌≡◌}
 use native.Mathlib.Omega.{arith}
-use borrow.Author.Rules.{rules}
-use Rattle.records.specs.RecordTable.{seen}
-use Rattle.tbox.specs.RestrictionPlaces.{Noted}
 use Rattle.records.proofs.Entries.{seen_most}
 use Rattle.tbox.proofs.PlacesFound.{noted_none, places-all}
 use Rattle.tbox.proofs.places.places.Goals as goal
