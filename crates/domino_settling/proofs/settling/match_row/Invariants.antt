@@ -1,11 +1,6 @@
-use borrow.Author.Rules.{rules}
-use mathlib.Core.Path.{◌≡◌}
-use mathlib.Core.Logic.{inl, inr, ⊎_elim}
-use Prim.Native.Nat.{◌-◌, ◌*◌, ◌^◌, ◌≤◌}
-use native.Mathlib.Omega.{arith}
+use Prim.Native.Nat.{◌-◌, ◌≤◌}
 use Rattle.semantics.specs.Dominoes.{number}
-use Rattle.domino_conditions.proofs.Rows.{fit_as, sets_are, last_run}
-use Rattle.domino_settling.proofs.Converses.{Matched, matched_none, matched_on}
+use Rattle.domino_settling.proofs.Converses.{Matched}
 use Rattle.domino_settling.proofs.settling.match_row.Given as goal
 
 abbrev pub invariant-loop-r : goal.invariant-loop-r

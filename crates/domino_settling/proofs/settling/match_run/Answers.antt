@@ -7,7 +7,6 @@ use Rattle.domino_conditions.proofs.Rows.{run_end, run_part}
 use Rattle.domino_initial.proofs.Dropping.{run_words}
 use Rattle.domino_settling.proofs.Passed.{pass-at, pass_empty}
 use Rattle.domino_settling.proofs.Converses.{run_asks}
-use borrow.Author.Rules.{rules}
 use Rattle.domino_settling.proofs.settling.match_run.Goals as goal
 
 pub match_words-requires : goal.match_words-requires

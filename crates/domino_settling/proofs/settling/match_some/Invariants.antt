@@ -1,14 +1,5 @@
-use Rattle.bitset.specs.Bits.{look}
-use mathlib.Core.Bool.{false≢true}
-use borrow.Author.Rules.{rules}
-use mathlib.Core.Path.{◌≡◌, refl, sym as flip, ap, ◌∙◌}
-use mathlib.Core.Logic.{⊎_elim}
-use Prim.Native.Nat.{◌+◌, ◌-◌, ◌^◌, ◌≤◌, ◌<◌}
-use native.Mathlib.Nat.{add-zero, add_assoc}
-use native.Mathlib.Omega.{arith}
-use borrow.Author.Tests.{not-true, not-false}
-use Rattle.domino_conditions.proofs.Rows.{converse-room}
-use Rattle.domino_settling.proofs.Converses.{run_place, RunMatched, run_none, match_stay, match_clear}
+use Prim.Native.Nat.{◌+◌, ◌-◌, ◌≤◌}
+use Rattle.domino_settling.proofs.Converses.{RunMatched}
 use Rattle.domino_settling.proofs.settling.match_some.Given as goal
 
 abbrev pub invariant-loop-i : goal.invariant-loop-i

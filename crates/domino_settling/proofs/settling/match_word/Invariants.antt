@@ -1,11 +1,6 @@
 -- `match_word` meets its contract: byte after byte, of which those that are 0 have no member.
-use mathlib.Core.Path.{◌≡◌, refl}
-use mathlib.Core.Logic.{inl, inr, ⊎_elim}
-use Prim.Native.Nat.{ℕ, ◌+◌, ◌-◌, ◌*◌, ◌%◌, ◌^◌, ◌≤◌}
-use native.Mathlib.Nat.{add-zero}
-use native.Mathlib.Omega.{arith}
-use Rattle.domino_conditions.proofs.Rows.{fit_as}
-use Rattle.domino_settling.proofs.Converses.{RunMatched, run_place, run_none, run_on, run_empty, byte_empty}
+use Prim.Native.Nat.{◌+◌, ◌-◌, ◌*◌, ◌≤◌}
+use Rattle.domino_settling.proofs.Converses.{RunMatched}
 use Rattle.domino_settling.proofs.settling.match_word.Given as goal
 
 abbrev pub invariant-loop-i : goal.invariant-loop-i

@@ -4,11 +4,12 @@ use Rattle.domino_conditions.proofs.Rows.{fit_as}
 use Rattle.domino_conditions.proofs.Shifts.{words_numbers}
 use borrow.Author.Rules.{rules}
 use mathlib.Core.Path.{◌≡◌, refl}
-use mathlib.Core.Logic.{inl, inr, ⊎_elim}
-use Prim.Native.Nat.{ℕ, ◌+◌, ◌-◌, ◌*◌, ◌%◌, ◌^◌, ◌≤◌}
+use mathlib.Core.Logic.{inl, inr}
+use Prim.Native.Nat.{ℕ, ◌+◌, ◌*◌, ◌%◌, ◌^◌}
 use native.Mathlib.Nat.{add-zero}
 use native.Mathlib.Omega.{arith}
-use Rattle.domino_settling.proofs.Converses.{RunMatched, word-place, run_none, run_on, run_empty, word_empty}
+use Rattle.domino_settling.proofs.Converses.{word-place, run_none, run_on, run_empty, word_empty}
+use Rattle.domino_settling.proofs.settling.match_words.Goals.{then-set-start-ne0+then-match_word, then-set-start-ne0+else-match_word, else-set-start-ne0}
 use Rattle.domino_settling.proofs.settling.match_words.Goals as goal
 
 pub overflow_sub-c : goal.overflow_sub-c
@@ -47,15 +48,17 @@ loop-i-preserved c = let k : ℕ = c.loop-i.i * 2 ^ 6 % 2 ^ 64 in
     let t : c.args.at + k ≡ c.args.at + 64 * c.loop-i.i = omega arith in
     let e : 64 * (c.loop-i.i + 1) ≡ k + 64 = omega arith in (
       search rules,
-      rw e (⊎_elim
-          (λ w. rw w.6 (run_on _ _ _ _ _ _ _ _ (c.args.at + (k + 64)) _ _ _ _ w.2.result _ c.loop-i.invariant.1 t
-          (record { long = w.3.given; passed = w.2.ensures }) (inl (w.5.true, w.7))))
-          (⊎_elim
-          (λ w. rw w.6 (run_on _ _ _ _ _ _ _ _ (c.args.at + (k + 64)) _ _ _ _ w.2.result _ c.loop-i.invariant.1 t
-          (record { long = w.3.given; passed = w.2.ensures }) (inr (w.5.false, w.7))))
-          (λ w. rw w.1 (run_on _ _ _ _ _ _ _ _ _ _ _ _ _ _ _ c.loop-i.invariant.1 t
-          (run_empty _ _ _ _ _ _ _ _ (word_empty _ _ c.loop-i.i k c.requires.4 s w.0.false)) (inr (refl, w.2)))))
-          c.if-set-start-ne0.branch),
+      rw e (elim c.if-set-start-ne0.branch [
+        | then-set-start-ne0+then-match_word w ↦
+            rw w.set-is (run_on _ _ _ _ _ _ _ _ (c.args.at + (k + 64)) _ _ _ _ w.match_word.result _ c.loop-i.invariant.1 t
+            (record { long = w.match_word.auto.set; passed = w.match_word.ensures }) (inl (w.if-match_word.true, w.moved-is)))
+        | then-set-start-ne0+else-match_word w ↦
+            rw w.set-is (run_on _ _ _ _ _ _ _ _ (c.args.at + (k + 64)) _ _ _ _ w.match_word.result _ c.loop-i.invariant.1 t
+            (record { long = w.match_word.auto.set; passed = w.match_word.ensures }) (inr (w.if-match_word.false, w.moved-is)))
+        | else-set-start-ne0 w ↦
+            rw w.set-is (run_on _ _ _ _ _ _ _ _ _ _ _ _ _ _ _ c.loop-i.invariant.1 t
+            (run_empty _ _ _ _ _ _ _ _ (word_empty _ _ c.loop-i.i k c.requires.4 s w.if-set-start-ne0.false)) (inr (refl, w.moved-is)))
+      ]),
     )
 
 pub shape_of-set : goal.shape_of-set

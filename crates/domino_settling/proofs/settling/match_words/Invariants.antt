@@ -1,14 +1,6 @@
 -- `match_words` meets its contract: word after word, of which those that are 0 have no member.
-use Rattle.domino_initial.proofs.Dropping.{labels_words}
-use Rattle.domino_conditions.proofs.Rows.{fit_as}
-use Rattle.domino_conditions.proofs.Shifts.{words_numbers}
-use borrow.Author.Rules.{rules}
-use mathlib.Core.Path.{◌≡◌, refl}
-use mathlib.Core.Logic.{inl, inr, ⊎_elim}
-use Prim.Native.Nat.{ℕ, ◌+◌, ◌-◌, ◌*◌, ◌%◌, ◌^◌, ◌≤◌}
-use native.Mathlib.Nat.{add-zero}
-use native.Mathlib.Omega.{arith}
-use Rattle.domino_settling.proofs.Converses.{RunMatched, word-place, run_none, run_on, run_empty, word_empty}
+use Prim.Native.Nat.{◌+◌, ◌-◌, ◌*◌, ◌≤◌}
+use Rattle.domino_settling.proofs.Converses.{RunMatched}
 use Rattle.domino_settling.proofs.settling.match_words.Given as goal
 
 abbrev pub invariant-loop-i : goal.invariant-loop-i

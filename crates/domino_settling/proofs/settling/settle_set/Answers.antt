@@ -1,4 +1,3 @@
-use borrow.Author.Rules.{rules}
 use native.Mathlib.Omega.{arith}
 use Rattle.bitset.proofs.Words.{are-by}
 use Rattle.domino_conditions.specs.Tables.{view}
@@ -26,5 +25,5 @@ count-requires c = let k = c.words_for.ensures in (
 
 pub returns : goal.returns
 returns c = settles (view c.args.p c.args.role.now c.args.good.now) c.args.set.now _ _ _ _ _
-    (are-by c.args.set.now (λ i. (c.type_inv.set i).fits)) c.requires.room (trimmed _ _ _ _ c.trim.ensures)
+    (are-by c.args.set.now (λ i. grind arith)) c.requires.room (trimmed _ _ _ _ c.trim.ensures)
     c.drop_defective.ensures c.sweep_all.ensures c.words_for.ensures c.count.ensures

@@ -1,14 +1,8 @@
-use borrow.Author.Rules.{rules}
-use mathlib.Core.Path.{◌≡◌}
-use mathlib.Core.Logic.{inl, inr, ⊎_elim}
-use Prim.Native.Nat.{◌-◌, ◌^◌, ◌≤◌}
-use native.Mathlib.Omega.{arith}
+use Prim.Native.Nat.{◌-◌, ◌≤◌}
 use Rattle.semantics.specs.Dominoes.{number}
 use Rattle.semantics.specs.Conditions.{defective}
 use Rattle.domino_conditions.specs.Tables.{view}
 use Rattle.domino_settling.specs.Sweeps.{Passed}
-use Rattle.domino_conditions.proofs.Rows.{row_at, number-zero, last_row}
-use Rattle.domino_settling.proofs.Passed.{pass-none, pass_on}
 use Rattle.domino_settling.proofs.settling.sweep.Given as goal
 
 abbrev pub invariant-loop-a : goal.invariant-loop-a

@@ -1,8 +1,6 @@
 use native.Mathlib.Omega.{arith}
-use Rattle.bitset.specs.Bits.{look, size}
-use Rattle.semantics.specs.Dominoes.{total}
 use Rattle.domino_conditions.specs.Tables.{view}
-use Rattle.domino_settling.proofs.Sweeps.{Between, between_none, between_more, between_last}
+use Rattle.domino_settling.proofs.Sweeps.{between_none, between_more, between_last}
 use Rattle.domino_settling.proofs.settling.sweep_all.Goals as goal
 
 pub loop-p-init : goal.loop-p-init

@@ -1,8 +1,7 @@
-use native.Mathlib.Omega.{arith}
 use Rattle.bitset.specs.Bits.{look, size}
 use Rattle.semantics.specs.Dominoes.{total}
 use Rattle.domino_conditions.specs.Tables.{view}
-use Rattle.domino_settling.proofs.Sweeps.{Between, between_none, between_more, between_last}
+use Rattle.domino_settling.proofs.Sweeps.{Between}
 use Rattle.domino_settling.proofs.settling.sweep_all.Given as goal
 
 abbrev pub invariant-loop-p : goal.invariant-loop-p
