@@ -1,9 +1,9 @@
 /*
  * Lodhrussi: sheets of rules, and whether some finite plant of at least one item keeps them. For C99 and later, and for C++.
  *
- * To link: `rt staticlib capi` writes target/staticlib/libcapi.a (x86-64), then
+ * To link: `rt lib` in crates/capi writes crates/capi/out/libcapi.a (x86-64), then
  *
- *     cc -I include program.c target/staticlib/libcapi.a
+ *     cc -I include program.c crates/capi/out/libcapi.a
  *
  * docs/FORMAT.md has the format of a sheet, what a sheet means, and each call at length. In description logic a sheet is a
  * knowledge base, a rule an axiom, a trait a concept name, a link a role, a mark a part of the flattened knowledge base, a mark set

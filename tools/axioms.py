@@ -109,7 +109,7 @@ def sees():
 def main():
     sees()
     lines = (ROOT / "crates.txt").read_text().splitlines()
-    crates = [line.partition(":")[0] for line in lines if line.strip() and not line.startswith("#")]
+    crates = [re.split(r"[ :]", line)[0] for line in lines if line.strip() and not line.startswith("#")]
     bad = [f"{name} is on a list and is no crate" for name in sorted((PROGRAMS.keys() | LIBRARIES | CALLS.keys()) - set(crates))]
     for crate in crates:
         log = ROOT / "target" / "log" / f"{crate}.say"

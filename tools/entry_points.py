@@ -25,9 +25,9 @@ LONGEST = 144
 # What is no code: strings and characters, and comments.
 QUIET = re.compile(r"""b?"(?:\\.|[^"\\])*"|b'(?:\\.|[^'\\])+'|//[^\n]*""")
 FUNCTION = re.compile(r"""(?:\b(pub(?:\s*\([^)]*\))?)\s+)?(?:(?:const|unsafe|extern\s+" *")\s+)*\bfn\s+(\w+)""")
-CLAUSE = re.compile(r"\b(requires|ensures)\s*\{")
+CLAUSE = re.compile(r"\b(requires|ensures)\*?\s*(?:\w+\s*)?\{")
 # A brace with the keyword of a clause before it, or a function's body, or the end of one without a body.
-HEADER = re.compile(r"(?:\b(requires|ensures|ghost)\s*)?\{|;")
+HEADER = re.compile(r"(?:\b(requires|ensures|ghost)\*?\s*(?:\w+\s*:?\s*)?)?\{|;")
 CLOSED_BY = {"(": ")", "{": "}", "[": "]"}
 
 
@@ -96,29 +96,32 @@ def faults(crates, product, layer, without_ensures):
     return bad
 
 
-SHORT = "\n    ensures { λ r. ⌜ r ≡ 1 ⌝ }\n{\n    1\n}\n"
-ASKS = "\n    requires { ⌜ x ≡ 1 ⌝ }" + SHORT
+SHORT = "\n    ensures { result ≡ 1 }\n{\n    1\n}\n"
+ASKS = "\n    requires { x ≡ 1 }" + SHORT
+NAMED = "\n    requires low { x ≡ 1 }\n    requires high { x ≡ 1 }\n    ensures one { result ≡ 1 }\n    ensures also { result ≡ 1 }\n{\n    1\n}\n"
 # 144 characters, over two lines, and one more
-ONES = "1" * (LONGEST - len("ensures { λ r. ⌜ r ≡  ⌝ }"))
-LONG = "pub fn f() -> u8\n    ensures { λ r.\n        ⌜ r ≡ " + ONES + " ⌝ }\n{\n    1\n}\n"
+ONES = "1" * (LONGEST - len("ensures one { result ≡  }"))
+LONG = "pub fn f() -> u8\n    ensures one {\n        result ≡ " + ONES + " }\n{\n    1\n}\n"
 LONGER = LONG.replace("≡ 1", "≡ 11")
 # A crate's file, its name and text; the crate is p on the list of products, q on that of layers, or x on none. How many faults.
 TEXTS = [
     ("p", "lib.rt", "pub fn f(x: u8) -> u8" + SHORT, 0),
     ("p", "lib.rt", "pub fn f(x: u8) -> u8" + ASKS, 1),
+    ("p", "lib.rt", "pub fn f(x: u8) -> u8" + NAMED, 1),
+    ("q", "lib.rt", "pub fn f(x: u8) -> u8" + NAMED + "pub fn g(x: u8) -> u8" + SHORT, 0),
     ("p", "lib.rt", "pub fn f(\n    x: u8,\n) -> [u8; 4]" + ASKS, 1),
     ("p", "lib.rt", 'pub extern "C" fn f(x: &mut [u8; 4]) -> u8' + ASKS, 1),
     ("p", "lib.rt", "impl T {\n    pub fn f(self) -> u8" + ASKS + "}", 1),
     ("p", "lib.rt", "pub fn f(x: u8) -> u8" + SHORT + "fn g(x: u8) -> u8" + ASKS, 0),
     ("p", "lib.rt", "pub(crate) fn f(x: u8) -> u8" + ASKS, 0),
-    ("p", "lib.rt", "// pub fn f(x: u8) -> u8 requires { ⌜ x ≡ 1 ⌝ }\npub fn f(x: u8) -> u8" + SHORT, 0),
+    ("p", "lib.rt", "// pub fn f(x: u8) -> u8 requires { x ≡ 1 }\npub fn f(x: u8) -> u8" + SHORT, 0),
     ("p", "lib.rt", "pub fn f(x: u8) -> u8 {\n    1\n}\n", 1),
     ("p", "lib.rt", "pub fn f(x: u8) -> u8 {\n    1\n}\nfn g(x: u8) -> u8" + SHORT, 1),
     ("p", "lib.rt", 'pub fn f(x: u8) -> u8 {\n    g(b"ensures { 1 }")\n}\n', 1),
     ("p", "main.rt", "pub fn f(x: u8) -> u8" + SHORT, 1),
     ("p", "lib.rt", "// nothing but a fn\npub enum E {\n    A,\n}\n", 1),
     ("q", "lib.rt", "pub fn f(x: u8) -> u8" + ASKS, 0),
-    ("q", "lib.rt", "pub fn f(x: u8)\n    requires { ⌜ x ≡ 1 ⌝ }\n{\n}\n", 1),
+    ("q", "lib.rt", "pub fn f(x: u8)\n    requires { x ≡ 1 }\n{\n}\n", 1),
     ("q", "lib.rt", "pub fn excused(x: u8) {\n}\n", 0),
     ("q", "lib.rt", LONG, 0),
     ("q", "lib.rt", LONGER, 1),
@@ -153,7 +156,7 @@ def main():
     sees()
     lines = (ROOT / "crates.txt").read_text().splitlines()
     crates = {}
-    for name in [line.partition(":")[0] for line in lines if line.strip() and not line.startswith("#")]:
+    for name in [re.split(r"[ :]", line)[0] for line in lines if line.strip() and not line.startswith("#")]:
         folder = ROOT / "crates" / name / "src"
         crates[name] = {str(file.relative_to(folder)): file.read_text() for file in sorted(folder.glob("**/*.rt"))}
     empty = [f"{name} has no source" for name, files in crates.items() if not files]

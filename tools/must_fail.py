@@ -1,12 +1,11 @@
 #!/usr/bin/env python3
 """Each must-fail edit was refused because a fact no longer holds, and not because a proof no longer fits the code's shape.
 
-usage: must_fail.py [CRATE...]
+usage: must_fail.py LOG
 
-`rt ci` and `rt must-fail` keep what the prover said of crates/CRATE/must-fail/NAME.edit in target/must-fail/CRATE/NAME/.log, and any
-error counts there as a refusal. Here each edit of the crates named, or of all in crates.txt, must have such a log. No error in it may
-be that a proof names a `Need-` which the changed code has not, nor the first that some other name is not there: that says nothing
-about what the contract rules out.
+LOG is what `rt ci` printed. It has a line for each edit crates/CRATE/must-fail/NAME.edit of the crates in crates.txt, tried in that run
+or kept from an earlier one, and says there why the prover refused it. Each must be refused, and not for names alone that the edit took
+away from a proof, nor at a limit of the prover: both say nothing about what the contract rules out. No edit is bad, and rt ci ended well.
 
 What this does not see: a proof that no longer fits for another reason than a name.
 """
@@ -16,65 +15,60 @@ from pathlib import Path
 
 ROOT = Path(__file__).resolve().parent.parent
 
-SHAPE = re.compile(r"has no `Need-")
-NAMES = re.compile(r"is not in scope|has no field `|exports no `|does not define it")
+TRIED = re.compile(r"^rt: must-fail (\w+/[\w.-]+\.edit): (.*)$", re.M)
+RIGHT = re.compile(r"refused, as it must be(?!.{0,2}\()")
+ENDED = re.compile(r"^rt: ok; .*must-fail edits: (\d+) refused(.*?);", re.M)
 
 
-def fault(log):
-    """What is wrong with a refusal, by its log; nothing if it is right."""
-    lines = log.splitlines()
-    if not any(line.startswith("logic=not-proved") for line in lines):
-        return "is not refused"
-    errors = [line for line in lines if ": error: " in line]
-    for i, error in enumerate(errors):
-        if SHAPE.search(error) or (i == 0 and NAMES.search(error)):
-            return f"is refused, but not by a fact: {error[:300]}"
-    return None
+def faults(log, edits):
+    """What is wrong with a log, for edits by their names CRATE/NAME.edit."""
+    said = dict(TRIED.findall(log))
+    bad = [f"{edit} {said.get(edit, 'has no line: it was not tried')[:300]}" for edit in edits if not RIGHT.match(said.get(edit, ""))]
+    bad += [f"{edit} was tried and is not there" for edit in sorted(set(said) - set(edits))]
+    ended = ENDED.search(log)
+    if not ended or int(ended[1]) != len(edits) or "bad" in ended[2] or "limit" in ended[2]:
+        bad.append(f"rt ci says of {len(edits)} edits: {ended[0] if ended else 'nothing'}")
+    return bad
 
 
-FACT = "p/Proof.antt:38:5: error: `returns`: the two types differ only where one has `32` and the other has `64`\n"
-NEED = "p/Proof.antt:16:18: error: `read`: `tie.Need-read`: module `p.Tie` has no `Need-read` that can be named from here\n"
-FIELD = "p/Proof.antt:34:15: error: `returns`: record `p.Lts.Start` has no field `before`\n"
-SCOPE = "specs/Bits.antt:15:11: error: `bit`: `eqbb` is not in scope; did you mean `eqb`?\n"
-LOST = "p/Proof.antt: error: this file exports no `p-spec`, the name by which `rattle check` finds the function's proof\n"
-CLAUSE = "p/Proof.antt:10:1: error: `p-spec`: this clause follows the signature of `p-spec` but does not define it\n"
-SEARCH = "fn a::p: no proof: expected `p-spec` in p/Proof.antt; `search` does not close `returns`\n"
-END = "logic=not-proved\n"
-# A log, and whether its refusal is right.
+FACT = "rt: must-fail p/a.edit: refused, as it must be: ./proofs/f/Answers.antt:33:3: error: `returns`: `omega`: the goal does not follow\n"
+BARE = "rt: must-fail p/a.edit: refused, as it must be\n"
+NAMES = "rt: must-fail p/a.edit: refused, as it must be (only because a proof file names what the edit took away, so this says little): x\n"
+LIMIT = "rt: must-fail p/a.edit: refused, as it must be (only by a limit of the prover, which gave no verdict): x\n"
+PROVED = "rt: must-fail p/a.edit: NOT REFUSED: the crate is still proved with this edit\n"
+BAD = "rt: must-fail p/a.edit: BAD EDIT: an 'old:' text is in src/lib.rt 0 times, and not once\n"
+OTHER = FACT.replace("a.edit", "b.edit")
+END = "rt: ok; handles allowed: none; must-fail edits: 1 refused; every proof and must-fail edit was done in this run\n"
+# A log, and how many faults it has for p/a.edit alone.
 LOGS = [
-    (FACT + END, True),
-    (SEARCH + END, True),
-    (FACT + FIELD + END, True),
-    (FACT, False),
-    (FACT + "logic=proved functions=1\n", False),
-    ("", False),
-    (NEED + END, False),
-    (FACT + NEED + END, False),
-    (FIELD + FACT + END, False),
-    (SCOPE + END, False),
-    (LOST + END, False),
-    (CLAUSE + END, False),
+    (FACT + END, 0),
+    (BARE + END, 0),
+    (FACT, 1),
+    (END, 1),
+    ("", 2),
+    (NAMES + END, 1),
+    (LIMIT + END.replace("refused;", "refused, 1 of them only by a limit;"), 2),
+    (PROVED + END.replace("1 refused", "0 refused"), 2),
+    (BAD + END.replace("1 refused;", "0 refused, 1 bad;"), 2),
+    (FACT + OTHER + END, 1),
+    (FACT + OTHER + END.replace("1 refused", "2 refused"), 2),
 ]
 
 
 def sees():
-    for log, right in LOGS:
-        if (fault(log) is None) != right:
-            raise SystemExit(f"must_fail: {fault(log)!r} found in {log!r}")
+    for log, count in LOGS:
+        if len(found := faults(log, ["p/a.edit"])) != count:
+            raise SystemExit(f"must_fail: {found} found in {log!r}")
 
 
 def main():
     sees()
+    log = Path(sys.argv[1]).read_text()
     lines = (ROOT / "crates.txt").read_text().splitlines()
-    crates = sys.argv[1:] or [line.partition(":")[0] for line in lines if line.strip() and not line.startswith("#")]
-    edits = [edit for crate in crates for edit in sorted((ROOT / "crates" / crate / "must-fail").glob("*.edit"))]
-    bad = [] if edits else ["there is nothing to look at"]
-    for edit in edits:
-        folder = ROOT / "target" / "must-fail" / edit.parent.parent.name / edit.stem
-        log = folder / ".log"
-        found = fault(log.read_text().replace(f"{folder}/", "")) if log.is_file() else "has no log: it was not tried"
-        if found:
-            bad.append(f"{edit.relative_to(ROOT)} {found}")
+    crates = [re.split(r"[ :]", line)[0] for line in lines if line.strip() and not line.startswith("#")]
+    paths = [edit for crate in crates for edit in sorted((ROOT / "crates" / crate / "must-fail").glob("*.edit"))]
+    edits = [f"{edit.parent.parent.name}/{edit.name}" for edit in paths]
+    bad = faults(log, edits) if edits else ["there is nothing to look at"]
     if bad:
         raise SystemExit("\n".join(["must_fail: found", *bad]))
     print(f"must_fail: {len(edits)} edits refused, none for a name that is missing")

@@ -203,7 +203,7 @@ def main():
     options = argparse.ArgumentParser(description=__doc__, formatter_class=argparse.RawDescriptionHelpFormatter)
     options.add_argument("--count", type=int, default=2000, help="number of sheets (2000)")
     options.add_argument("--seed", type=int, default=1, help="seed of the sheets (1)")
-    options.add_argument("--program", default=home / "target/bin/evening", help="the evening program (target/bin/evening)")
+    options.add_argument("--program", default=home / "crates/evening/out/evening", help="the evening program (crates/evening/out/evening)")
     options.add_argument("--ask", nargs="+", choices=REASONERS, default=list(REASONERS), help="which reasoners (both)")
     options.add_argument("--limit", type=float, default=10, help="seconds for one verdict (10)")
     given = options.parse_args()

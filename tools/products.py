@@ -1,7 +1,7 @@
 #!/usr/bin/env python3
 """Nothing that a call of the library runs multiplies or divides: in the source, and in the compiled functions.
 
-usage: products.py [target/staticlib/libcapi.a]
+usage: products.py [crates/capi/out/libcapi.a]
 
 Source: every crate that capi stands on. No `*` but a dereference, no `/` or `%` but by a literal power of two (a shift or a mask),
 none of the language's operations called mul, div, rem or pow. Contracts and comments are left out.
@@ -22,7 +22,8 @@ from pathlib import Path
 ROOT = Path(__file__).resolve().parent.parent
 ONES = 0x0101010101010101
 
-GHOST = re.compile(r"//[^\n]*|ghost use [^;]*;|⌜.*?⌝", re.S)
+GHOST = re.compile(r"//[^\n]*|ghost use [^;]*;", re.S)
+CLAUSE = re.compile(r"\b(?:requires|ensures|ghost)\*?\s*(?:\w+\s*:?\s*)?\{")
 TOKEN = re.compile(r"\d\w*|\w+|<<|>>|&&|\|\||[=!<>]=|->|=>|::|\S")
 LITERAL = re.compile(r"(0x[0-9a-f_]+|[\d_]+)(?:_?[ui](?:8|16|32|64|size))?")
 NUMBERS = {"u8", "u16", "u32", "u64", "usize", "i8", "i16", "i32", "i64", "isize"}
@@ -45,10 +46,26 @@ def power_of_two(token):
     return n > 0 and n & (n - 1) == 0
 
 
+def blank(text):
+    return re.sub(r"[^\n]", " ", text)
+
+
+def without_ghosts(source):
+    """A source text with comments, imports for clauses and clauses as blanks."""
+    text = GHOST.sub(lambda m: blank(m[0]), source)
+    while m := CLAUSE.search(text):
+        depth, at = 1, m.end()
+        while depth:
+            depth += (text[at] == "{") - (text[at] == "}")
+            at += 1
+        text = text[: m.start()] + blank(text[m.start() : at]) + text[at:]
+    return text
+
+
 def products_of(source):
     """The products and quotients written in a source text, each as its line and the tokens around it."""
     found = []
-    text = GHOST.sub(lambda m: re.sub(r"[^\n]", " ", m[0]), source)
+    text = without_ghosts(source)
     tokens = [(m[0], text.count("\n", 0, m.start()) + 1) for m in TOKEN.finditer(text)]
     for i, (token, line) in enumerate(tokens):
         before = tokens[i - 1][0] if i else ";"
@@ -67,7 +84,7 @@ def products_of(source):
 
 def standing_on(crate, lines):
     """The crates of crates.txt that a crate stands on, also through others, and itself, in the order of the file."""
-    below = {name: rest.split() for name, colon, rest in (line.partition(":") for line in lines) if colon}
+    below = {name.split()[0]: rest.split() for name, colon, rest in (line.partition(":") for line in lines) if colon}
     found, new = set(), [crate]
     while new:
         name = new.pop()
@@ -136,7 +153,8 @@ TEXTS = [
     ("set[n / 64] >> (n % 64) % 2 == 1 / 16777216", 0),
     ("w / 0x40u64 % 1_024", 0),
     ("crate::numbers::pow(k) fn pow(k: usize)", 0),
-    ("ensures { λ r. ⌜ r ≡ 4 * i % 3 ⌝ } // 3 * i\nghost use Nat.{_*_, _/_};", 0),
+    ("ensures { result ≡ 4 * i % 3 } // 3 * i\nghost use Nat.{◌*◌, ◌/◌};", 0),
+    ("requires low { x ≡ record { a = 4 * i } }\n    ensures { y % 3 ≡ 1 }\n{\n    3 * i\n}", 1),
 ]
 # A listing, how many of its instructions multiply or divide, and how many are of count_ones.
 LISTINGS = [
@@ -169,7 +187,7 @@ def run(*command):
 
 def main():
     sees()
-    library = Path(sys.argv[1]) if len(sys.argv) > 1 else ROOT / "target/staticlib/libcapi.a"
+    library = Path(sys.argv[1]) if len(sys.argv) > 1 else ROOT / "crates/capi/out/libcapi.a"
     bad = []
     crates = standing_on("capi", (ROOT / "crates.txt").read_text().splitlines())
     sources = [s for crate in crates for s in sorted((ROOT / "crates" / crate / "src").glob("**/*.rt"))]

@@ -13,7 +13,7 @@ fn main() {
     println!("cargo:rerun-if-changed={}", library.display());
     assert!(
         library.is_file(),
-        "{} is missing: run `rt staticlib capi` at the root of the repository",
+        "{} is missing: run `rt lib` in crates/capi",
         library.display()
     );
     println!("cargo:rustc-link-search=native={}", folder.display());
@@ -26,8 +26,8 @@ fn folder() -> PathBuf {
     env::var_os(FOLDER_VARIABLE).map_or_else(default_folder, PathBuf::from)
 }
 
-/// `target/staticlib` at the root of the repository.
+/// Where `rt lib` leaves the library.
 fn default_folder() -> PathBuf {
     let manifest = env::var_os("CARGO_MANIFEST_DIR").expect("cargo sets CARGO_MANIFEST_DIR");
-    Path::new(&manifest).join("../../target/staticlib")
+    Path::new(&manifest).join("../../crates/capi/out")
 }

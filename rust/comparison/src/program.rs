@@ -17,11 +17,11 @@ impl Program {
     ///
     /// If it is missing.
     pub fn path(self) -> PathBuf {
-        let folder = Path::new(env!("CARGO_MANIFEST_DIR")).join("../../target/bin");
-        let path = folder.join(self.0);
+        let crates = Path::new(env!("CARGO_MANIFEST_DIR")).join("../../crates");
+        let path = crates.join(self.0).join("out").join(self.0);
         assert!(
             path.is_file(),
-            "{} is missing: run `rt check {}` first, at the root of the repository",
+            "{} is missing: run `rt run` first, in crates/{}",
             path.display(),
             self.0
         );

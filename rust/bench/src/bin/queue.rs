@@ -165,10 +165,10 @@ fn by_processes(sheets: &[Vec<u8>]) {
 /// A program that the proofs' build made.
 fn program(name: &str) -> PathBuf {
     let root = Path::new(env!("CARGO_MANIFEST_DIR")).join("../..");
-    let path = root.join("target/bin").join(name);
+    let path = root.join("crates").join(name).join("out").join(name);
     assert!(
         path.is_file(),
-        "{} is missing: run `rt check {name}` at the root of the repository",
+        "{} is missing: run `rt run` in crates/{name}",
         path.display()
     );
     path

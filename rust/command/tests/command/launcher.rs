@@ -10,10 +10,10 @@ use std::path::{Path, PathBuf};
 use std::process::Command;
 use std::time::{Duration, SystemTime};
 
-const LIBRARY: &str = "root/target/staticlib/libcapi.a";
+const LIBRARY: &str = "root/crates/capi/out/libcapi.a";
 const PROGRAM: &str = "root/rust/target/release/lodhrussi";
 const SOURCES: [&str; 5] = [
-    "root/crates/a/src/lib.rt",
+    "root/crates/capi/src/lib.rt",
     "root/crates.txt",
     "root/rust/Cargo.toml",
     "root/rust/lodhrussi/src/lib.rs",
@@ -26,7 +26,7 @@ const UTILITIES: [&str; 8] = [
 ];
 
 const RT: &str = "#!/bin/sh
-mkdir -p target/staticlib && : >target/staticlib/libcapi.a
+mkdir -p out && : >out/libcapi.a
 ";
 const CARGO: &str = "#!/bin/sh
 mkdir -p target/release && cd target/release || exit
@@ -38,7 +38,7 @@ echo why >&2
 exit 1
 ";
 
-const PROVING: &str = "lodhrussi: proving, which takes minutes the first time: rt staticlib capi\n";
+const PROVING: &str = "lodhrussi: proving, which takes minutes the first time: rt lib\n";
 const BUILDING: &str = "lodhrussi: building: cargo build --release --offline --package command \
                         --target-dir target\n";
 
