@@ -2,7 +2,7 @@
 use Rattle.std.specs.Prelude.{ℕ, ◌≤◌, ◌<◌, ◌≡◌, Bool, true, false, List, length}
 use Rattle.std.proofs.Math.Option.{Option, none, some}
 use Rattle.records.specs.declared.Entry.{Entry}
-use Rattle.syntax.specs.Concepts.{Role, named, role_below}
+use Rattle.syntax.specs.Concepts.{Role, role_below}
 use Rattle.syntax.specs.Normal.{Tag}
 use Rattle.syntax.specs.Flatten.{Atom, atomic, Part, atom, alike, shared}
 use Rattle.flattening.specs.PartTable.{AtomIs, Stands, Stood, restriction, role_kind}

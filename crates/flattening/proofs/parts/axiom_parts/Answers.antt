@@ -1,12 +1,9 @@
 -- The invariant: the axioms of the records before i are gone through.
-use Prim.Native.Nat.{◌≤◌, ◌-◌}
 use mathlib.Core.Path.{sym}
-use lib.ListN.{take}
 use native.Mathlib.Omega.{arith}
 use Rattle.syntax.specs.Concepts.{nodes_of, axioms_of}
 use Rattle.syntax.specs.Flatten.{pendings}
 use Rattle.records.specs.RecordTable.{seen}
-use Rattle.flattening.specs.Adding.{AddsAll}
 use Rattle.records.proofs.Entries.{seen-short}
 use Rattle.flattening.proofs.CodeOrder.{pendings-step}
 use Rattle.flattening.proofs.QueueParts.{adds_all_same, adds_nothing, adds_append, pendings-all}
@@ -16,22 +13,10 @@ pub loop-i-init : goal.loop-i-init
 unfolding axioms_of pendings
 loop-i-init c = (omega arith, adds_nothing _ _ _ _)
 
-pub overflow_cast-i : goal.overflow_cast-i
-overflow_cast-i c = omega arith
-
-pub axiom_at-m-requires : goal.axiom_at-m-requires
-axiom_at-m-requires c = omega arith
-
-pub overflow_add-i : goal.overflow_add-i
-overflow_add-i c = omega arith
-
-pub loop-i-smaller : goal.loop-i-smaller
-loop-i-smaller c = omega arith
-
 pub loop-i-preserved : goal.loop-i-preserved
 loop-i-preserved c = let args = c.args in
     let at = c.loop-i in
-    (omega arith, adds_all_same _ _ _ _ _ _ _ _ (adds_append _ _ _ _ _ _ _ _ _ _ at.invariant.1 c.axiom_at.ensures) (pendings-step (nodes_of (seen args.table.now args.count)) at.i))
+    (omega arith, adds_all_same _ _ _ _ _ _ _ _ (adds_append _ _ _ _ _ _ _ _ _ _ at.invariant.1 c.axiom_at-m.ensures) (pendings-step (nodes_of (seen args.table.now args.count)) at.i))
 
 pub returns : goal.returns
 returns c = adds_all_same _ _ _ _ _ _ _ _ c.loop-i.invariant.1 (sym (pendings-all _ _ (seen-short _ _ _ c.loop-i-test.false)))

@@ -1,15 +1,10 @@
 -- The invariant: the axioms of the records before i are gone through.
 use Prim.Native.Nat.{◌≤◌, ◌-◌}
-use mathlib.Core.Path.{sym}
 use lib.ListN.{take}
-use native.Mathlib.Omega.{arith}
 use Rattle.syntax.specs.Concepts.{nodes_of, axioms_of}
 use Rattle.syntax.specs.Flatten.{pendings}
 use Rattle.records.specs.RecordTable.{seen}
 use Rattle.flattening.specs.Adding.{AddsAll}
-use Rattle.records.proofs.Entries.{seen-short}
-use Rattle.flattening.proofs.CodeOrder.{pendings-step}
-use Rattle.flattening.proofs.QueueParts.{adds_all_same, adds_nothing, adds_append, pendings-all}
 use Rattle.flattening.proofs.parts.axiom_parts.Given as goal
 
 abbrev pub invariant-loop-i : goal.invariant-loop-i

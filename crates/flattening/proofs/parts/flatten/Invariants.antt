@@ -1,8 +1,7 @@
 -- The invariant: the parts before j have had their turn in the queue. There are at most 20, or the loop ends.
 use Prim.Native.Nat.{◌-◌}
-use native.Mathlib.Omega.{arith}
 use Rattle.records.specs.RecordTable.{seen}
-use Rattle.flattening.proofs.QueueParts.{Turning, turning_start, turning_next, turning_over, turning_end}
+use Rattle.flattening.proofs.QueueParts.{Turning}
 use Rattle.flattening.proofs.parts.flatten.Given as goal
 
 abbrev pub invariant-loop-j : goal.invariant-loop-j

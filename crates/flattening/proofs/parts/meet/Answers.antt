@@ -1,6 +1,5 @@
 -- Nothing above the limit; two words where the filler needs a fresh name; else one, or none where a part alike is there.
 use Rattle.flattening.proofs.PartTables.{met-over, met-both, met-shared, met_new}
-use borrow.Author.Rules.{rules}
 use Rattle.flattening.proofs.parts.meet.Goals as goal
 
 pub returns-then-limit-n : goal.returns-then-limit-n

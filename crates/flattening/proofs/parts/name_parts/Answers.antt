@@ -1,11 +1,6 @@
 -- The invariant: the table holds the parts of the first n names.
-use Prim.Native.Nat.{◌+◌, ◌≤◌, ◌-◌}
-use mathlib.Core.Path.{◌≡◌, refl}
-use mathlib.Core.List.{List}
+use mathlib.Core.Path.{refl}
 use native.Mathlib.Omega.{arith}
-use Rattle.records.specs.declared.Entry.{Entry}
-use Rattle.syntax.specs.Flatten.{name_parts_lem}
-use Rattle.flattening.specs.PartTable.{Held}
 use Rattle.syntax.proofs.Queue.{names-length}
 use Rattle.flattening.proofs.PartTables.{held_longer}
 use Rattle.flattening.proofs.QueueParts.{names-none, names-next}
@@ -16,15 +11,6 @@ loop-n-init c = (refl, omega arith, omega arith, names-none _ _)
 
 pub returns-then-n-names : goal.returns-then-n-names
 returns-then-n-names c = λ es. rw (← c.if-n-names.true) (c.loop-n.invariant.3 es)
-
-pub part_word-requires : goal.part_word-requires
-part_word-requires c = omega arith
-
-pub push-n-requires : goal.push-n-requires
-push-n-requires c = omega arith
-
-pub overflow_add-i : goal.overflow_add-i
-overflow_add-i c = omega arith
 
 pub loop-n-smaller : goal.loop-n-smaller
 loop-n-smaller c = let v = c.loop-n.invariant in

@@ -1,14 +1,10 @@
 -- The invariant: the table holds the parts of the first n names.
 use Prim.Native.Nat.{◌+◌, ◌≤◌, ◌-◌}
-use mathlib.Core.Path.{◌≡◌, refl}
+use mathlib.Core.Path.{◌≡◌}
 use mathlib.Core.List.{List}
-use native.Mathlib.Omega.{arith}
 use Rattle.records.specs.declared.Entry.{Entry}
 use Rattle.syntax.specs.Flatten.{name_parts_lem}
 use Rattle.flattening.specs.PartTable.{Held}
-use Rattle.syntax.proofs.Queue.{names-length}
-use Rattle.flattening.proofs.PartTables.{held_longer}
-use Rattle.flattening.proofs.QueueParts.{names-none, names-next}
 use Rattle.flattening.proofs.parts.name_parts.Given as goal
 
 abbrev pub invariant-loop-n : goal.invariant-loop-n

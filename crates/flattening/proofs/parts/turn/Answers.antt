@@ -1,6 +1,5 @@
 -- A fresh part's word says how its filler is read; any other part puts nothing on the queue.
 use mathlib.Core.Bool.{true, false}
-use borrow.Author.Rules.{rules}
 use Rattle.records.proofs.Entries.{seen_most}
 use Rattle.flattening.proofs.QueueParts.{turn-fresh, turn_quiet, adds_all_same, adds_nothing, adds_guarded}
 use Rattle.flattening.proofs.parts.turn.Goals as goal

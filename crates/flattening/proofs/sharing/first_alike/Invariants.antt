@@ -1,10 +1,9 @@
 -- The invariant: none of the parts before j is alike.
 use Prim.Native.Nat.{◌-◌, ◌≤◌}
-use native.Mathlib.Omega.{arith}
 use Rattle.records.specs.RecordTable.{seen}
 use Rattle.syntax.specs.Concepts.{role_below}
 use Rattle.flattening.specs.AlikeParts.{Sought}
-use Rattle.flattening.proofs.AlikeSearch.{NoneBefore, sought_start, sought_next, sought_found, sought_end}
+use Rattle.flattening.proofs.AlikeSearch.{NoneBefore}
 use Rattle.flattening.proofs.sharing.first_alike.Given as goal
 
 abbrev pub invariant-loop-j : goal.invariant-loop-j

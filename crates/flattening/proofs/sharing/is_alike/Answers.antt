@@ -1,6 +1,5 @@
 -- By the word: kind and filler, and then the role.
 use Rattle.flattening.proofs.AlikeSearch.{kind_apart, filler_apart, role_decides}
-use borrow.Author.Rules.{rules}
 use Rattle.flattening.proofs.sharing.is_alike.Goals as goal
 
 pub returns-then-word-kind : goal.returns-then-word-kind

@@ -1,7 +1,6 @@
 -- A role record, or none.
 use native.Mathlib.Omega.{arith}
 use Rattle.flattening.proofs.RoleTrees.{outer_past, outer_role_lem, outer_none}
-use borrow.Author.Rules.{rules}
 use Rattle.flattening.proofs.sharing.outer_role.Goals as goal
 
 pub returns-then-below-i : goal.returns-then-below-i
