@@ -1,12 +1,11 @@
 -- Read's refusal, or the lines of what judge answers.
 use Rattle.report.proofs.Reporting.{reports_refused, reports_judged}
-use borrow.Author.Rules.{rules}
 use Rattle.report.proofs.evening.Goals as goal
 
 pub returns-in-Refused : goal.returns-in-Refused
-returns-in-Refused c = reports_refused _ _ c.read-counts.ensures _ _ _ _ _ _ c.counts-1.given.1 c.put_refusal.ensures
+returns-in-Refused c = reports_refused _ _ c.read-counts.ensures _ _ _ _ _ _ c.in-Refused.is c.put_refusal.ensures
 
 pub returns-in-Read : goal.returns-in-Read
 returns-in-Read c = let judged = c.judge-answer.ensures in
-    reports_judged _ _ c.read-counts.ensures _ _ _ _ _ _ _ c.counts-in-Read-1.given.1 _ _ judged
+    reports_judged _ _ c.read-counts.ensures _ _ _ _ _ _ _ c.in-Read.is _ _ judged
     c.put_judged.ensures

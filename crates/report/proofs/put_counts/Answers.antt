@@ -7,5 +7,5 @@ use Rattle.report.proofs.put_counts.Goals as goal
 
 pub returns : goal.returns
 unfolding text counts_line
-returns c = let front = puts_then c.put_labelled-first.ensures.0 c.put_labelled-second.ensures.0 in
-    (puts_then (puts_then front c.put_labelled-third.ensures.0) c.put_text.ensures, search rules)
+returns c = let front = puts_then c.put_labelled-first.ensures.puts c.put_labelled-second.ensures.puts in
+    record { puts = puts_then (puts_then front c.put_labelled-third.ensures.puts) c.put_text.ensures; upper_bound = search rules }

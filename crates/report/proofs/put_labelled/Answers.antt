@@ -4,4 +4,4 @@ use borrow.Author.Rules.{rules}
 use Rattle.report.proofs.put_labelled.Goals as goal
 
 pub returns : goal.returns
-returns c = (puts_then c.put_text-next.ensures c.put_number.ensures.0, search rules)
+returns c = record { puts = puts_then c.put_text-next.ensures c.put_number.ensures.puts; upper_bound = search rules }

@@ -7,13 +7,16 @@ use Rattle.report.proofs.put_number.Goals as goal
 
 pub put_text-requires : goal.put_text-requires
 put_text-requires c = let written = c.decimal-k.ensures in
-    let few = few-digits c.args.n _ (search rules) written.1.0 in
-    omega (arith, written.0.1)
+    let few = few-digits c.args.n _ (search rules) written.len in
+    omega (arith, written.in_bounds)
 
 pub returns : goal.returns
 returns c = let n = c.args.n in
     let k = c.decimal-k.result in
     let written = c.decimal-k.ensures in
-    let e = written.1.1 ∙ digits_decimal n k written.1.0 in
-    let few = few-digits n k (search rules) written.1.0 in
-    (rw (← e) c.put_text.ensures, omega (arith, c.put_text.ensures.answer, written.0.1))
+    let e = written.digits ∙ digits_decimal n k written.len in
+    let few = few-digits n k (search rules) written.len in
+    record {
+      puts = rw (← e) c.put_text.ensures;
+      upper_bound = omega (arith, c.put_text.ensures.answer, written.in_bounds);
+    }

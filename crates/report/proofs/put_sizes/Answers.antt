@@ -7,4 +7,7 @@ use Rattle.report.proofs.put_sizes.Goals as goal
 
 pub returns : goal.returns
 unfolding text sizes_line
-returns c = (puts_then (puts_then c.put_labelled-first.ensures.0 c.put_labelled-second.ensures.0) c.put_text.ensures, search rules)
+returns c = record {
+  puts = puts_then (puts_then c.put_labelled-first.ensures.puts c.put_labelled-second.ensures.puts) c.put_text.ensures;
+  upper_bound = search rules;
+}

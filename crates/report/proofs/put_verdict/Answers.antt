@@ -1,7 +1,6 @@
 -- The line of either verdict.
 use Rattle.report.specs.Text.{text}
 use Rattle.report.specs.Lines.{verdict_line}
-use borrow.Author.Rules.{rules}
 use Rattle.report.proofs.put_verdict.Goals as goal
 
 pub returns-then-met : goal.returns-then-met
