@@ -1,5 +1,5 @@
 -- The dominoes of an interpretation (002, Definition 3).
-use Rattle.std.specs.Prelude.{ℕ, ◌+◌, ◌*◌, ◌/◌, ◌%◌, Bool, false, not, ◌&&◌, ◌||◌, cond, length, eqb}
+use Rattle.std.specs.Prelude.{ℕ, ◌*◌, ◌/◌, ◌%◌, Bool, false, not, ◌&&◌, ◌||◌, cond, length, eqb}
 use Rattle.bitset.specs.Bits.{word}
 use Rattle.elimination.specs.Sets.{every, some}
 use Rattle.syntax.specs.Flatten.{Part, name_p, fresh_p, exists_p, forall_p, part_at}
