@@ -131,9 +131,9 @@ module _ (refusals : ℕ → Bool) (those : (n : ℕ) → is_set_refusal n ≡ t
   unfolding is_record_fault is_reference_fault
   set-enough = from-enough refusals as_read sheet ws 10 ten refl refl (λ k. held (kb_view k))
 
-  written-done : (k : Kb) → read_kb limit sheet ≡ kb k → (says : List ℕ) (D : Set) → held (kb_view k) ≤ length ws
+  written_done : (k : Kb) → read_kb limit sheet ≡ kb k → (says : List ℕ) (D : Set) → held (kb_view k) ≤ length ws
       → RefusesOnSet refusals sheet ws (0 ∷ 0 ∷ says) (written (held (kb_view k)) (dominoes (kb_view k)) D ws)
-  written-done k e says D h =
+  written_done k e says D h =
       set-enough k e (0 ∷ 0 ∷ says) (written (held (kb_view k)) (dominoes (kb_view k)) D ws) h
       (no_refusal refusals as_read sheet ws k e says (written (held (kb_view k)) (dominoes (kb_view k)) D ws) (written-long (held (kb_view k)) (dominoes (kb_view k)) D ws h))
       (written-past (held (kb_view k)) (dominoes (kb_view k)) D ws)
@@ -200,7 +200,7 @@ module _ (sheet ws : List ℕ) where
   open_refuses : RefusesOnSet is_set_refusal sheet ws (open_says (read_kb limit sheet) ws) (open_leaves (read_kb limit sheet) ws)
   unfolding open_says open_leaves
   open_refuses =
-      from_any is_set_refusal (λ n e. e) sheet ws _ _ (λ k e h. written-done is_set_refusal (λ n e. e) sheet ws k e _ (initial (kb_view k)) h) (read_kb limit sheet) refl
+      from_any is_set_refusal (λ n e. e) sheet ws _ _ (λ k e h. written_done is_set_refusal (λ n e. e) sheet ws k e _ (initial (kb_view k)) h) (read_kb limit sheet) refl
 
   strike-refuses : (n : ℕ) → RefusesOnSet is_strike_refusal sheet ws (strike_says (read_kb limit sheet) n ws) (strike_leaves (read_kb limit sheet) n ws)
   unfolding strike_says strike_leaves is_record_fault is_reference_fault is_read_refusal is_set_refusal is_strike_refusal
@@ -226,13 +226,13 @@ module _ (sheet ws : List ℕ) where
   unfolding settle_says settle_leaves
   settle-refuses =
       from_any is_set_refusal (λ n e. e) sheet ws _ _
-      (λ k e h. written-done is_set_refusal (λ n e. e) sheet ws k e _ (settled (dominoes (kb_view k)) (defective (kb_view k)) (look ws)) h)
+      (λ k e h. written_done is_set_refusal (λ n e. e) sheet ws k e _ (settled (dominoes (kb_view k)) (defective (kb_view k)) (look ws)) h)
       (read_kb limit sheet) refl
 
   judge_refuses : RefusesOnSet is_set_refusal sheet ws (judge_says (read_kb limit sheet) ws) (judge_leaves (read_kb limit sheet) ws)
   unfolding judge_says judge_leaves
   judge_refuses =
-      from_any is_set_refusal (λ n e. e) sheet ws _ _ (λ k e h. written-done is_set_refusal (λ n e. e) sheet ws k e _ (canon (kb_view k)) h) (read_kb limit sheet) refl
+      from_any is_set_refusal (λ n e. e) sheet ws _ _ (λ k e h. written_done is_set_refusal (λ n e. e) sheet ws k e _ (canon (kb_view k)) h) (read_kb limit sheet) refl
 
 pub demand_1 : (sheet list ws : List ℕ) (n : ℕ) → Demand1 sheet list ws n
 demand_1 sheet list ws n =
@@ -298,6 +298,6 @@ module _ (k : Kb) (ws : List ℕ) (h : held (kb_view k) ≤ length ws) where
         settled = opened-settled;
       }
 
-pub demand_1-done : (sheet : List ℕ) (k : Kb) → read_kb limit sheet ≡ kb k → (ws : List ℕ) (n : ℕ)
+pub demand_1_done : (sheet : List ℕ) (k : Kb) → read_kb limit sheet ≡ kb k → (ws : List ℕ) (n : ℕ)
     → held (kb_view k) ≤ length ws → Demand1Done (read_kb limit sheet) (kb_view k) ws n
-demand_1-done sheet k e ws n h = rw e (done k ws h n)
+demand_1_done sheet k e ws n h = rw e (done k ws h n)

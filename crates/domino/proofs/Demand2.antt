@@ -16,7 +16,7 @@ use Rattle.bitset.proofs.RunLaws.{words-room}
 use Rattle.elimination.specs.Sets.{below, Same}
 use Rattle.elimination.specs.Elimination.{is_stable}
 use Rattle.elimination.proofs.Settling.{stable_same, canonical-largest}
-use Rattle.elimination.proofs.Written.{written-front, written-look, written-spare}
+use Rattle.elimination.proofs.Written.{written_front, written-look, written-spare}
 use Rattle.syntax.specs.Reading.{Kb, kb, read_kb}
 use Rattle.syntax.specs.Answers.{limit}
 use Rattle.semantics.specs.Dominoes.{Met, Domino, number, left_of, roles_of, right_of_lem, inverse, numbered, unnumbered}
@@ -158,7 +158,7 @@ module _ (k : Kb) where
       → take (held (kb_view k)) (judge_leaves (kb k) ws) ≡ words (held (kb_view k)) (below (dominoes (kb_view k)) (canon (kb_view k)))
   front ws h =
       let v : View = kb_view k in
-      ap (take (held v)) (judge_leaves_lem k ws h) ∙ written-front (held v) (dominoes v) (canon v) ws
+      ap (take (held v)) (judge_leaves_lem k ws h) ∙ written_front (held v) (dominoes v) (canon v) ws
 
   fixed : (ws vs : List ℕ) → held (kb_view k) ≤ length ws → held (kb_view k) ≤ length vs → FixedBySheet (kb k) (kb_view k) ws vs
   fixed ws vs h l =

@@ -17,7 +17,7 @@ use Rattle.elimination.specs.Elimination.{is_stable, settled, Monotone, Largest}
 use Rattle.elimination.specs.Calls.{Call, strike, settle, run_with, strike_words, act_words, after, Demand3Words}
 use Rattle.elimination.proofs.Settling.{same_sub, same_sub', stable_same, settled-largest}
 use Rattle.elimination.proofs.CallsOnWords.{demand_3-words}
-use Rattle.elimination.proofs.Written.{written-long, written-look, written-spare, written-front, strike-long}
+use Rattle.elimination.proofs.Written.{written-long, written-look, written-spare, written_front, strike-long}
 use Rattle.syntax.specs.Reading.{Kb, kb, read_kb}
 use Rattle.syntax.specs.Answers.{limit}
 use Rattle.semantics.specs.Conditions.{View, dominoes, initial, lacks, defective, defect_at, canon, held}
@@ -196,7 +196,7 @@ list_of_calls k cs ws t h =
       exact = λ r.
           ap (take (held v)) same
           ∙ d.exact (subst (λ (us : List ℕ). T (is_stable (dominoes v) (defective v) (look us))) same (words-stable v (calls_leave (kb k) cs ws) r))
-          ∙ flip (ap (take (held v)) (judge_leaves_lem k ws h) ∙ written-front (held v) (dominoes v) (canon v) ws);
+          ∙ flip (ap (take (held v)) (judge_leaves_lem k ws h) ∙ written_front (held v) (dominoes v) (canon v) ws);
       ends = λ o r e l p.
           let q : size (dominoes v) (initial v) ≡ o = ap (λ (l : List ℕ). get_or l 2 0) (flip (open_says_lem k ws h) ∙ e) in
           subst (StableWords v) (flip same) (stable-words v a (d.ends r p (omega arith)));

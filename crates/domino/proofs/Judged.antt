@@ -24,9 +24,9 @@ unfolding judge_says says_on_set on_set
 judge_by-length (refusal n p) us ws e = refl
 judge_by-length (kb k) us ws e = rw e
 
-not-two : (a b : Bool) (x y : List ℕ) → (a ≡ false → b ≡ false) → length x ≡ 2 → length (cond a x y) ≡ 5 → cond b x y ≡ cond a x y
-not-two true b x y h two five = absurd (omega arith)
-not-two false b x y h two five = ap (λ (c : Bool). cond c x y) (h refl)
+not_two : (a b : Bool) (x y : List ℕ) → (a ≡ false → b ≡ false) → length x ≡ 2 → length (cond a x y) ≡ 5 → cond b x y ≡ cond a x y
+not_two true b x y h two five = absurd (omega arith)
+not_two false b x y h two five = ap (λ (c : Bool). cond c x y) (h refl)
 
 still-enough : (k : Kb) (us ws : List ℕ) → length us ≤ length ws → is_short k us ≡ false → is_short k ws ≡ false
 still-enough k us ws h q =
@@ -37,7 +37,7 @@ still-enough k us ws h q =
 pub more_words : (s : Reading) (us ws : List ℕ) → length us ≤ length ws → length (judge_says s us) ≡ 5 → judge_says s ws ≡ judge_says s us
 unfolding judge_says says_on_set on_set
 more_words (refusal n p) us ws h e = refl
-more_words (kb k) us ws h e = not-two (is_short k us) (is_short k ws) (10 ∷ 0 ∷ []) _ (still-enough k us ws h) refl e
+more_words (kb k) us ws h e = not_two (is_short k us) (is_short k ws) (10 ∷ 0 ∷ []) _ (still-enough k us ws h) refl e
 
 -- too few words
 pub judge_short : (k : Kb) (ws : List ℕ) → is_short k ws ≡ true → judge_says (kb k) ws ≡ 10 ∷ 0 ∷ []

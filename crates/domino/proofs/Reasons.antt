@@ -199,5 +199,5 @@ module _ (sheet : List ℕ) (k : Kb) (e : read_kb limit sheet ≡ kb k) (ws : Li
   pub leaves_as_before : AsBefore (read_kb limit sheet) (kb_view k) ws
   leaves_as_before = rw e (as_before k ws h)
 
-  pub strikes-rest : T (are_words ws) → Resting (read_kb limit sheet) (kb_view k) ws
-  strikes-rest t = rw e (resting_of k ws t h)
+  pub strikes_rest : T (are_words ws) → Resting (read_kb limit sheet) (kb_view k) ws
+  strikes_rest t = rw e (resting_of k ws t h)

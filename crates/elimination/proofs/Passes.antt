@@ -1,4 +1,4 @@
--- `hasPasses` computes whether a list of calls has k passes in it, one after another.
+-- `has_passes` computes whether a list of calls has k passes in it, one after another.
 use mathlib.Core.Path.{◌≡◌, refl, sym, ap, subst, ◌∙◌}
 use mathlib.Core.Bool.{Bool, true, false, ◌&&◌}
 use mathlib.Core.List.{List, [], ◌∷◌, ◌++◌, append_assoc, append-nil}

@@ -1,4 +1,4 @@
--- What `settledWords` computes are the words of what settling leaves. Assumes of `defective` that it is monotone, and nothing else.
+-- What `settled_words` computes are the words of what settling leaves. Assumes of `defective` that it is monotone, and nothing else.
 use mathlib.Core.Path.{◌≡◌, refl, sym, ap, ap₂, ◌∙◌}
 use mathlib.Core.Bool.{Bool, true, false, not, ◌&&◌}
 use mathlib.Core.List.{List, [], ◌∷◌}

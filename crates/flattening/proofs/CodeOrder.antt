@@ -108,9 +108,9 @@ turns_beyond : (j : ℕ) (so : List Part) → length so ≤ j → turns_from j (
 unfolding turns_from
 turns_beyond j so h = rw (drop_of_length-le so h)
 
-pub left-done : {F : Flattening} {done : List Flat} {so : List Part} (j : ℕ) → Left shared F done (turns_from j (drop j so)) so → length so ≤ j →
+pub left_done : {F : Flattening} {done : List Flat} {so : List Part} (j : ℕ) → Left shared F done (turns_from j (drop j so)) so → length so ≤ j →
     (F.parts ≡ so) × (F.axioms ≡ done)
-left-done {so = so} j l h = left_end (rw (turns_beyond j so h) at l)
+left_done {so = so} j l h = left_end (rw (turns_beyond j so h) at l)
 
 pub left_below : {F : Flattening} {done : List Flat} {so : List Part} (j : ℕ) → Left shared F done (turns_from j (drop j so)) so →
     j < length F.parts → j < length so
@@ -118,7 +118,7 @@ left_below {F} {done} {so} j l h = at (dec_lt j (length so))
   where
     at : Dec (j < length so) → j < length so
     at (yes q) = q
-    at (no q) = omega (arith, ap length (left-done j l (omega (arith, q))).0)
+    at (no q) = omega (arith, ap length (left_done j l (omega (arith, q))).0)
 
 -- the axioms of one record more
 pub pendings-step : (ns : List Node) (i : ℕ) → pendings (axioms_of (take (i + 1) ns)) ≡ pendings (axioms_of (take i ns)) ++ axiom_turn ns i
@@ -162,5 +162,5 @@ pub queue_order : (T : ℕ) (s : List Axiom) (n : ℕ) → length (flatten T s).
 unfolding axioms_first Lefts
 queue_order T s n h =
     let l : Lefts (flatten T s) n (turned n (axioms_first T s)) = lefts (flatten T s) (axioms_first T s) n (left-axioms T s) in
-    let e = left-done n l (omega (arith, left_grows l)) in
+    let e = left_done n l (omega (arith, left_grows l)) in
     λ i. record { axioms = e.1 i; parts = e.0 i }

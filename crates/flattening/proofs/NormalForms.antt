@@ -18,7 +18,7 @@ use Rattle.records.specs.RecordTable.{flag}
 use Rattle.flattening.specs.PartTable.{nf_below, AtomIs, part_word_lem, filler_word, restriction, FillerAt, Restricts, Stands, Held, Pushed}
 use Rattle.flattening.specs.Adding.{Adds, RestrictionMet}
 use Rattle.flattening.specs.AlikeParts.{place_in}
-use Rattle.syntax.proofs.Trees.{concept-is, concept-past, concept-low, concept-none}
+use Rattle.syntax.proofs.Trees.{concept_is, concept_past, concept_low, concept_none}
 use Rattle.flattening.proofs.PartTables.{held_push, held-length, held-over, adds_none, adds_and, adds_or}
 use Rattle.syntax.proofs.Alike.{found_at}
 
@@ -36,46 +36,46 @@ pub record Restriction (d c : Nf) : Type 0 where
 module _ (es : List Entry) (below r : ℕ) (e : Entry) (h : r < below) (p : e ≡ record_at_lem es r) where
   pub nf_top : e.kind ≡ 1 → (plain (concept_below es below r) ≡ top_n) × (negated (concept_below es below r) ≡ bottom_n)
   unfolding plain node_of
-  nf_top k = rw (concept-is es below r e h p, k) (refl, refl)
+  nf_top k = rw (concept_is es below r e h p, k) (refl, refl)
 
   pub nf_name : e.kind ≡ 3 → (plain (concept_below es below r) ≡ name_n e.first) × (negated (concept_below es below r) ≡ not_n e.first)
   unfolding plain node_of
-  nf_name k = rw (concept-is es below r e h p, k) (refl, refl)
+  nf_name k = rw (concept_is es below r e h p, k) (refl, refl)
 
   pub nf_not : (odd : Bool) → e.kind ≡ 4 → nf_below odd es below r ≡ nf_below (not odd) es r e.first
   unfolding plain node_of concept_below
-  nf_not true k = rw (concept-is es below r e h p, k) refl
-  nf_not false k = rw (concept-is es below r e h p, k) refl
+  nf_not true k = rw (concept_is es below r e h p, k) refl
+  nf_not false k = rw (concept_is es below r e h p, k) refl
 
   pub nf_and : e.kind ≡ 5 →
       (plain (concept_below es below r) ≡ and_n (plain (concept_below es r e.first)) (plain (concept_below es r e.second)))
       × (negated (concept_below es below r) ≡ or_n (negated (concept_below es r e.first)) (negated (concept_below es r e.second)))
   unfolding plain node_of concept_below
-  nf_and k = rw (concept-is es below r e h p, k) (refl, refl)
+  nf_and k = rw (concept_is es below r e h p, k) (refl, refl)
 
   pub nf_or : e.kind ≡ 6 →
       (plain (concept_below es below r) ≡ or_n (plain (concept_below es r e.first)) (plain (concept_below es r e.second)))
       × (negated (concept_below es below r) ≡ and_n (negated (concept_below es r e.first)) (negated (concept_below es r e.second)))
   unfolding plain node_of concept_below
-  nf_or k = rw (concept-is es below r e h p, k) (refl, refl)
+  nf_or k = rw (concept_is es below r e h p, k) (refl, refl)
 
   pub nf_exists : e.kind ≡ 7 →
       (plain (concept_below es below r) ≡ exists_n (tag r false e.second) (role_below es r e.first) (plain (concept_below es r e.second)))
       × (negated (concept_below es below r) ≡ forall_n (tag r true e.second) (role_below es r e.first) (negated (concept_below es r e.second)))
   unfolding plain node_of concept_below role_below
-  nf_exists k = rw (concept-is es below r e h p, k) (refl, refl)
+  nf_exists k = rw (concept_is es below r e h p, k) (refl, refl)
 
   pub nf_forall : e.kind ≡ 8 →
       (plain (concept_below es below r) ≡ forall_n (tag r false e.second) (role_below es r e.first) (plain (concept_below es r e.second)))
       × (negated (concept_below es below r) ≡ exists_n (tag r true e.second) (role_below es r e.first) (negated (concept_below es r e.second)))
   unfolding plain node_of concept_below role_below
-  nf_forall k = rw (concept-is es below r e h p, k) (refl, refl)
+  nf_forall k = rw (concept_is es below r e h p, k) (refl, refl)
 
   -- every other kind is nothing
   pub nf_none : (e.kind ≡ 1 → ⊥) → (e.kind ≡ 3 → ⊥) → (4 ≤ e.kind → 8 < e.kind) →
       (plain (concept_below es below r) ≡ bottom_n) × (negated (concept_below es below r) ≡ top_n)
   unfolding plain
-  nf_none n1 n3 o = rw (concept-is es below r e h p, concept-none es r e n1 n3 o) (refl, refl)
+  nf_none n1 n3 o = rw (concept_is es below r e h p, concept_none es r e n1 n3 o) (refl, refl)
 
   -- of two, an and or an or
   nf_two : (odd : Bool) → 5 ≤ e.kind → e.kind < 7 →
@@ -102,7 +102,7 @@ module _ (es : List Entry) (below r : ℕ) (e : Entry) (h : r < below) (p : e �
 
 pub nf_past : (es : List Entry) (below r : ℕ) → below ≤ r → (plain (concept_below es below r) ≡ bottom_n) × (negated (concept_below es below r) ≡ top_n)
 unfolding plain
-nf_past es below r h = rw (concept-past es below r h) (refl, refl)
+nf_past es below r h = rw (concept_past es below r h) (refl, refl)
 
 -- of the same concepts
 pub nf_same : (odd : Bool) (es : List Entry) (m n r : ℕ) → concept_below es m r ≡ concept_below es n r → nf_below odd es m r ≡ nf_below odd es n r
@@ -237,7 +237,7 @@ module _ (limit : ℕ) (es : List Entry) (r : ℕ) (e : Entry) (p : e ≡ record
         behind q =
             let b = fresh-below odd es r e.second q in
             let x = within es r e p k in
-            nf_same odd es r (length es) e.second (concept-low es r (length es) e.second b (omega arith))
+            nf_same odd es r (length es) e.second (concept_low es r (length es) e.second b (omega arith))
 
         go : n ≤ limit → (o : Option Atom) → atom filler ≡ o → AtomIs o a → Held limit es after m (so ++ (meet_one shared part_of source filler so o).parts)
         go l (some b) q i =

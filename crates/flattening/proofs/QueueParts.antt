@@ -19,9 +19,9 @@ use Rattle.syntax.specs.Parts.{kind_of}
 use Rattle.records.specs.RecordTable.{flag}
 use Rattle.flattening.specs.PartTable.{nf_below, part_word_lem, Stands, Pushed, Held}
 use Rattle.flattening.specs.Adding.{Adds, AddsAll, AddsTurn}
-use Rattle.syntax.proofs.Trees.{nodes_length, concept-all, axiom_at_lem, axiom_none}
+use Rattle.syntax.proofs.Trees.{nodes_length, concept_all, axiom_at_lem, axiom_none}
 use Rattle.syntax.proofs.Queue.{Left, left_grows, names-length}
-use Rattle.flattening.proofs.CodeOrder.{left-axioms, left-turn, left-done, through-append}
+use Rattle.flattening.proofs.CodeOrder.{left-axioms, left-turn, left_done, through-append}
 use Rattle.flattening.proofs.PartTables.{held_push, held-length, held_longer}
 use Rattle.flattening.proofs.NormalForms.{nf_same}
 use Rattle.flattening.proofs.PartWords.{flag-low, flag_same, word-odd, word_number, stand-kind}
@@ -63,7 +63,7 @@ module _ (es : List Entry) (j x : ℕ) where
   turn-fresh n odd (fresh_p g c) l s h =
       let f = word_number x 1 (odd_no g) g.filler 0 s.0 (omega arith) (flag-low g.odd) s.1 in
       let o : g.odd ≡ odd = flag_same g.odd odd (omega (arith, word-odd x 1 (odd_no g) g.filler 0 s.0 (omega arith) (flag-low g.odd), flag-low odd)) in
-      ap (λ (d : Nf). guarded j d ∷ []) (s.2 ∙ rw (o, f) (nf_same odd es (length es) n g.filler (concept-all es n g.filler l)))
+      ap (λ (d : Nf). guarded j d ∷ []) (s.2 ∙ rw (o, f) (nf_same odd es (length es) n g.filler (concept_all es n g.filler l)))
   turn-fresh n odd (exists_p g u f) l s h = absurd (omega (arith, stand-kind es j x (exists_p g u f) s))
   turn-fresh n odd (forall_p g u f) l s h = absurd (omega (arith, stand-kind es j x (forall_p g u f) s))
 
@@ -122,4 +122,4 @@ module _ (limit : ℕ) (es : List Entry) (names : ℕ) where
     where
       at : Dec (limit < n) → Held limit es t n (flatten names (axioms_of (nodes_of es))).parts
       at (yes o) = turning_over r o
-      at (no o) = rw (left-done j r.left (omega (arith, held-length (omega (arith, o)) r.held))).0 r.held
+      at (no o) = rw (left_done j r.left (omega (arith, held-length (omega (arith, o)) r.held))).0 r.held

@@ -29,10 +29,10 @@ flags_are : (n v s l : ℕ) → v < 2 ^ 1 → s < 2 ^ 2 → l < 2 ^ 1 →
     n + v * 2 ^ 1 % 2 ^ 32 + s * 2 ^ 2 % 2 ^ 32 + l * 2 ^ 4 % 2 ^ 32 ≡ n + 2 * v + 4 * s + 16 * l
 flags_are n v s l hv hs hl = omega arith
 
-word-digits : (e : Entry) (n v l : ℕ) → e.kind < 256 → e.first < 256 → e.second < 256 → e.sort < 4 → n ≡ flag e.named →
+word_digits : (e : Entry) (n v l : ℕ) → e.kind < 256 → e.first < 256 → e.second < 256 → e.sort < 4 → n ≡ flag e.named →
     v ≡ flag e.vacuous → l ≡ flag e.leaf → n ≤ 1 → v ≤ 1 → l ≤ 1 →
     entry_of (e.kind + e.first * 2 ^ 8 + e.second * 2 ^ 16 + (n + 2 * v + 4 * e.sort + 16 * l) * 2 ^ 24) ≡ e
-word-digits e n v l k a b s p q r hn hv hl =
+word_digits e n v l k a b s p q r hn hv hl =
     entry_is (e.kind + e.first * 2 ^ 8 + e.second * 2 ^ 16 + f * 2 ^ 24) e
     (omega arith) (omega arith) (omega arith) (omega arith) (omega arith) (omega arith) (omega arith)
   where
@@ -50,7 +50,7 @@ word_entry e n v l k a b s p q r hn hv hl =
       shl_exact {a = e.second} 8 16 32 b (omega arith),
       shl_exact {a = n + 2 * v + 4 * e.sort + 16 * l} 5 24 32 (omega arith) (omega arith),
     )
-    (word-digits e n v l k a b s p q r hn hv hl)
+    (word_digits e n v l k a b s p q r hn hv hl)
 
 -- the flag that a record is named, set in its word
 pub word-named : (w : ℕ) → entry_of (w + (1 - w / 16777216 % 2) * 2 ^ 24 % 2 ^ 32) ≡ naming (entry_of w)

@@ -93,9 +93,9 @@ module _ (es : List Entry) (s : Shape) (a b : ℕ) where
     body-first z = simp (eq-eqb (number_fault_lem s a) 0 e, ne_eqb (reference_fault_lem es s.first a) 0 z)
 
     module _ (d : reference_fault_lem es s.first a ≡ 0) where
-      body-second : (second ≡ 0 → ⊥) → fault_at_lem 2 second ≡ body_fault es s a b
+      body_second : (second ≡ 0 → ⊥) → fault_at_lem 2 second ≡ body_fault es s a b
       unfolding body_fault
-      body-second z = simp (eq-eqb (number_fault_lem s a) 0 e, eq-eqb (reference_fault_lem es s.first a) 0 d, ne_eqb second 0 z)
+      body_second z = simp (eq-eqb (number_fault_lem s a) 0 e, eq-eqb (reference_fault_lem es s.first a) 0 d, ne_eqb second 0 z)
 
       body_last : second ≡ 0 → fault_at_lem 0 (empty_fault_lem es s a) ≡ body_fault es s a b
       unfolding body_fault
@@ -177,12 +177,12 @@ module _ (t : List ℕ) (n : ℕ) (s : Shape) (a b f : ℕ) (pf : f ≡ number_f
       found_first : reference_fault_lem (seen t n) s.first a ≡ 0
       found_first = eqb-true (reference_fault_lem (seen t n) s.first a) 0 (sym pg ∙ q)
 
-      pub test-second : h ≡ false → Body t n s a b u second_test
+      pub test_second : h ≡ false → Body t n s a b u second_test
       unfolding fault_of_lem
-      test-second q =
+      test_second q =
           let z : reference_fault_lem (seen u n) s.second b ≡ 0 → ⊥ = eqb-false (reference_fault_lem (seen u n) s.second b) 0 (sym ph ∙ q) in
           let e : fault_at_lem 2 (reference_fault_lem (seen u n) s.second b) ≡ body_fault (seen t n) s a b =
-          rw pu (body-second (seen t n) s a b no_number found_first (rw pu at z)) in
+          rw pu (body_second (seen t n) s a b no_number found_first (rw pu at z)) in
           record {
             fault = e;
             some = λ w i. z (ap (λ (x : Fault). x.number) e ∙ i);

@@ -334,11 +334,11 @@ module _ (sheet : List ℕ) (n : ℕ) (st : State) (r : Reached sheet n st) wher
       first_read = body-read 0 (inl refl) kind.one st.records (bring st.records (st.at + 1) (up_to 0) (omega arith) kind-read) y
 
       -- before a second reference
-      pub second-next : 2 ≤ here.body → Named sheet n (st.at + 2) first_named
-      second-next h = bring first_named (up_to 1) (st.at + 2) (omega arith) first_read
+      pub second_next : 2 ≤ here.body → Named sheet n (st.at + 2) first_named
+      second_next h = bring first_named (up_to 1) (st.at + 2) (omega arith) first_read
 
-      second-read : reference_fault_lem first_named here.second (body_at sheet st 2) ≡ 0 → Named sheet n (st.at + 1 + here.body) both_named
-      second-read z =
+      second_read : reference_fault_lem first_named here.second (body_at sheet st 2) ≡ 0 → Named sheet n (st.at + 1 + here.body) both_named
+      second_read z =
           bring both_named (up_to 2) (st.at + 1 + here.body) (omega (arith, kind.body))
           (body-read 1 (inr refl) kind.two first_named first_read z)
 
@@ -351,7 +351,7 @@ module _ (sheet : List ℕ) (n : ℕ) (st : State) (r : Reached sheet n st) wher
       record {
         at = rw (← r.at);
         known = known_next w.0;
-        named = named_more sheet n (st.at + 1 + here.body) (both_named inside w.1) (second-read inside w.1 f.1 f.2) e refl
+        named = named_more sheet n (st.at + 1 + here.body) (both_named inside w.1) (second_read inside w.1 f.1 f.2) e refl
             (rw (← r.at) refl) (rw (← r.at) refl) (sym ends);
       }
     where

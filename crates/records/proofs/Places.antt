@@ -16,7 +16,7 @@ use Rattle.records.specs.Scan.{State, start, record_at_lem, fault_at_lem, or_els
 use Rattle.records.specs.Places.{start_of, Start, wanted_at, Reference, wanted_by, named_shape, Misnames, is_record_fault, is_reference_fault, Placed}
 use Rattle.records.proofs.KindTable.{Bounds, bounds}
 use Rattle.records.proofs.Faultless.{body_at}
-use Rattle.records.proofs.Namings.{Named, Reached, starts, own, kind-read, reference-at, second-next, reached-start, reached-next}
+use Rattle.records.proofs.Namings.{Named, Reached, starts, own, kind-read, reference-at, second_next, reached-start, reached-next}
 
 -- ---- the numbers
 
@@ -64,15 +64,15 @@ abbrev wrong : ℕ → ℕ
 wrong found = cond (eqb found 1) 16 (cond (eqb found 2) 6 17)
 
 data Wrong (found g : ℕ) : Type 0 where
-  is-concept : found ≡ 1 → g ≡ 16 → Wrong found g
+  is_concept : found ≡ 1 → g ≡ 16 → Wrong found g
   is-role : found ≡ 2 → g ≡ 6 → Wrong found g
   is_axiom : (found ≡ 1 → ⊥) → (found ≡ 2 → ⊥) → g ≡ 17 → Wrong found g
 
-wrong-is : (found : ℕ) → Wrong found (wrong found)
-wrong-is found = go (eqb found 1) refl (eqb found 2) refl
+wrong_is : (found : ℕ) → Wrong found (wrong found)
+wrong_is found = go (eqb found 1) refl (eqb found 2) refl
   where
     go : (b : Bool) → eqb found 1 ≡ b → (c : Bool) → eqb found 2 ≡ c → Wrong found (cond b 16 (cond c 6 17))
-    go true p c q = is-concept (eqb-true found 1 p) refl
+    go true p c q = is_concept (eqb-true found 1 p) refl
     go false p true q = is-role (eqb-true found 2 q) refl
     go false p false q = is_axiom (eqb-false found 1 p) (eqb-false found 2 q) refl
 
@@ -108,7 +108,7 @@ caused es wanted r = none (eqb wanted 0) refl
 
     sorted : r < length es → (b : Bool) → eqb e.sort wanted ≡ b → Caused es wanted r (or_else (cond b 0 (wrong e.sort)) (again_fault_lem e))
     sorted h true q = again h (eqb-true e.sort wanted q) e.named e.leaf refl refl
-    sorted h false q = inr (other_sort h (eqb-false e.sort wanted q) (rw (wrong_first e.sort (again_fault_lem e)) (wrong-is e.sort)))
+    sorted h false q = inr (other_sort h (eqb-false e.sort wanted q) (rw (wrong_first e.sort (again_fault_lem e)) (wrong_is e.sort)))
 
     within : (b : Bool) → leb (length es) r ≡ b → Caused es wanted r (cond b 5 (or_else (sort_fault_lem wanted e.sort) (again_fault_lem e)))
     within true q = inr (not_earlier (leb-true (length es) r q) refl)
@@ -123,7 +123,7 @@ caused es wanted r = none (eqb wanted 0) refl
 cause_number : (es : List Entry) (wanted r g : ℕ) → Cause es wanted r g → is_reference_fault g ≡ true
 unfolding is_reference_fault
 cause_number es wanted r g (not_earlier h e) = ap is_reference_fault e
-cause_number es wanted r g (other_sort h n (is-concept f e)) = ap is_reference_fault e
+cause_number es wanted r g (other_sort h n (is_concept f e)) = ap is_reference_fault e
 cause_number es wanted r g (other_sort h n (is-role f e)) = ap is_reference_fault e
 cause_number es wanted r g (other_sort h n (is_axiom f i e)) = ap is_reference_fault e
 cause_number es wanted r g (named_again h d k l e) = ap is_reference_fault e
@@ -164,8 +164,8 @@ module _ (es : List Entry) (s : Shape) (a b : ℕ) where
   first-known : Known (fault_at_lem 1 (reference_fault_lem es s.first a))
   first-known = ⊎_elim no_fault (λ f. at_first f.0 f.1 refl) (caused es s.first a)
 
-  second-known : reference_fault_lem es s.first a ≡ 0 → Known (fault_at_lem 2 (reference_fault_lem (name es s.first a) s.second b))
-  second-known z = ⊎_elim no_fault (λ f. at_second f.0 z f.1 refl) (caused (name es s.first a) s.second b)
+  second_known : reference_fault_lem es s.first a ≡ 0 → Known (fault_at_lem 2 (reference_fault_lem (name es s.first a) s.second b))
+  second_known z = ⊎_elim no_fault (λ f. at_second f.0 z f.1 refl) (caused (name es s.first a) s.second b)
 
   body-known : Known (body_fault es s a b)
   unfolding body_fault
@@ -174,7 +174,7 @@ module _ (es : List Entry) (s : Shape) (a b : ℕ) where
       (λ _. either (reference_fault_lem es s.first a)
       (λ z. either (reference_fault_lem (name es s.first a) s.second b)
       (λ _. either (empty_fault_lem es s a) (λ _. no_fault refl) empty_known)
-      (second-known z))
+      (second_known z))
       first-known)
       number-known
 
@@ -227,7 +227,7 @@ module _ (sheet : List ℕ) (n : ℕ) (st : State) (r : Reached sheet n st) wher
       axiom_left a b = omega (arith, a, b, found, r.known m below, (bounds (get_or sheet (start_of sheet m) 0)).sort)
 
       other : ((record_at_lem es m).sort ≡ w → ⊥) → Wrong (record_at_lem es m).sort g → Misnames sheet g p x
-      other i (is-concept f j) =
+      other i (is_concept f j) =
           record {
             later = λ q. absurd (omega arith);
             earlier = λ q. omega (arith, e, below);
@@ -317,7 +317,7 @@ module _ (sheet : List ℕ) (n : ℕ) (st : State) (r : Reached sheet n st) wher
         go (at_second u z c o) =
             let es : List Entry = name st.records here.first (body_at sheet st 1) in
             let w = full f t 2 (inr refl) (kind.two u) kind.second u es c in
-            rw o (of_byte f t 2 (inr refl) (kind.two u) kind.second u es c (second-next sheet n st r inside w z (kind.two u)))
+            rw o (of_byte f t 2 (inr refl) (kind.two u) kind.second u es c (second_next sheet n st r inside w z (kind.two u)))
 
 scan-placed : (sheet : List ℕ) (room n : ℕ) (st : State) → Reached sheet n st → (f p : ℕ) → scan room sheet st ≡ refused f p → FaultPlaced sheet f p
 unfolding scan is_record_fault

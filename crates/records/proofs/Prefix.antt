@@ -78,9 +78,9 @@ pub long-faulty : (sheet : List ℕ) → 766 ≤ length sheet → (n : ℕ) × (
 unfolding scan_sheet
 long-faulty sheet long = scan-faulty sheet long 255 start (omega arith)
 
-pub scan-front : (sheet : List ℕ) → scan_sheet (take 766 sheet) ≡ scan_sheet sheet
+pub scan_front : (sheet : List ℕ) → scan_sheet (take 766 sheet) ≡ scan_sheet sheet
 unfolding scan_sheet
-scan-front sheet = go (ltb (length sheet) 766) refl
+scan_front sheet = go (ltb (length sheet) 766) refl
   where
     go : (b : Bool) → ltb (length sheet) 766 ≡ b → scan 255 (take 766 sheet) start ≡ scan 255 sheet start
     go true e = ap (λ (l : List ℕ). scan 255 l start) (take_all 766 sheet (omega (arith, ltb-true (length sheet) 766 e)))

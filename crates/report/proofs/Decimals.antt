@@ -59,8 +59,8 @@ unfolding decimal
 digits_decimal n k f = by-steps n n k (omega arith) f
 
 -- a number of 64 bits has at most 20 digits
-pub few-digits : (n k : ℕ) → n < 0x1_0000_0000_0000_0000 → IsDigitCount 10 1 n k → k ≤ 20
-few-digits n k h f = go (ltb 20 k) refl
+pub few_digits : (n k : ℕ) → n < 0x1_0000_0000_0000_0000 → IsDigitCount 10 1 n k → k ≤ 20
+few_digits n k h f = go (ltb 20 k) refl
   where
     go : (b : Bool) → ltb 20 k ≡ b → k ≤ 20
     go false e = ltb-false 20 k e

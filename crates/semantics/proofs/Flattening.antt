@@ -51,11 +51,11 @@ module _ (m : ℕ → Part) where
   abbrev Stands : List Part → Type 0
   Stands so = (k : ℕ) → k < length so → m k ≡ part_at so k
 
-  stands-front : (so more : List Part) → Stands (so ++ more) → Stands so
-  stands-front so more h k l = h k (omega (arith, length-append so more)) ∙ get_or-append so more no_part k l
+  stands_front : (so more : List Part) → Stands (so ++ more) → Stands so
+  stands_front so more h k l = h k (omega (arith, length-append so more)) ∙ get_or-append so more no_part k l
 
   stands-left : (so a b : List Part) → Stands (so ++ (a ++ b)) → Stands (so ++ a)
-  stands-left so a b h = stands-front (so ++ a) b (rw append_assoc h)
+  stands-left so a b h = stands_front (so ++ a) b (rw append_assoc h)
 
   stands-next : (so a b : List Part) → Stands (so ++ (a ++ b)) → Stands ((so ++ a) ++ b)
   stands-next so a b h = rw append_assoc h
@@ -63,8 +63,8 @@ module _ (m : ℕ → Part) where
   stands-first : (so : List Part) (p : Part) (more : List Part) → Stands (so ++ (p ∷ more)) → m (length so) ≡ p
   stands-first so p more h = h (length so) (omega (arith, length-append so (p ∷ more))) ∙ get_or-append_seam so p more no_part
 
-  stands-second : (so : List Part) (p q : Part) → Stands (so ++ (p ∷ q ∷ [])) → m (suc (length so)) ≡ q
-  stands-second so p q h =
+  stands_second : (so : List Part) (p q : Part) → Stands (so ++ (p ∷ q ∷ [])) → m (suc (length so)) ≡ q
+  stands_second so p q h =
       ap m (omega arith) ∙ h (length so + 1) (omega (arith, length-append so (p ∷ q ∷ []))) ∙ get_or-append-add so (p ∷ q ∷ []) 1 no_part
 
   -- each name stands at its own number
@@ -115,7 +115,7 @@ module _ (m : ℕ → Part) where
           Stands (so ++ (meet_one find p g c so o).parts) → All Waits (meet_one find p g c so o).later
       unfolding meet_one
       meet_waits p g c so (some a) n h = placed-waits (p (atomic a)) so (find (p (atomic a)) so)
-      meet_waits p g c so none n h = ((n, (g, stands-second so (p (fresh (suc (length so)))) (fresh_p g c) h)), tt)
+      meet_waits p g c so none n h = ((n, (g, stands_second so (p (fresh (suc (length so)))) (fresh_p g c) h)), tt)
 
       walk-waits : (c : Nf) (so : List Part) → Named c → Stands (so ++ (walk_by find c so).parts) →
           All Waits (walk_by find c so).later
@@ -160,7 +160,7 @@ module _ (m : ℕ → Part) where
         placed-laid g c a so (some j) q found h =
             let w = faith (p g (atomic a)) so j q in
             let l = like g a (part_at so j) w.1 in
-            (j, l.0, atomic a, refl, stands-front so [] h j w.0 ∙ l.1, (refl, found))
+            (j, l.0, atomic a, refl, stands_front so [] h j w.0 ∙ l.1, (refl, found))
         placed-laid g c a so none q found h = (length so, g, atomic a, refl, stands-first so (p g (atomic a)) [] h, (refl, found))
 
         meet_laid : (g : Tag) (c : Nf) (so : List Part) (o : Option Atom) → Found o →
@@ -175,7 +175,7 @@ module _ (m : ℕ → Part) where
               fresh j,
               refl,
               stands-first so (p g (fresh j)) (fresh_p g c ∷ []) h,
-              (j, g, d.0.0, refl, stands-second so (p g (fresh j)) (fresh_p g c) h, d.0.1, d.0.2),
+              (j, g, d.0.0, refl, stands_second so (p g (fresh j)) (fresh_p g c) h, d.0.1, d.0.2),
             )
 
       walk-laid : (c : Nf) (so : List Part) → Named c → Stands (so ++ (walk_by find c so).parts) →
@@ -227,12 +227,12 @@ module _ (find : Lookup) (faith : Faithful find) (F : Flattening) where
   abbrev AtMost : ℕ → List Flat → Type 0
   AtMost n done = length F.axioms ≤ n + length done
 
-  left-done : {done : List Flat} {q : List Pending} {so : List Part} → Left find F done q so → length done ≤ length F.axioms
-  left-done {done} {q} {so} l = omega (arith, ap length l.axioms, length-append done (run_by find l.fuel q so).axioms)
+  left_done : {done : List Flat} {q : List Pending} {so : List Part} → Left find F done q so → length done ≤ length F.axioms
+  left_done {done} {q} {so} l = omega (arith, ap length l.axioms, length-append done (run_by find l.fuel q so).axioms)
 
   left_more : {done : List Flat} {p : Pending} {q : List Pending} {so : List Part} → Left find F done (p ∷ q) so →
       suc (length done) ≤ length F.axioms
-  left_more {done} {p} {so = so} l = omega (arith, left-done (left_step l), length-append done ((walk_pending_by find p so).flat ∷ []))
+  left_more {done} {p} {so = so} l = omega (arith, left_done (left_step l), length-append done ((walk_pending_by find p so).flat ∷ []))
 
   at_most : (n : ℕ) (done : List Flat) (f : Flat) → AtMost (suc n) done → AtMost n (done ++ (f ∷ []))
   at_most n done f h = omega (arith, length-append done (f ∷ []))
@@ -282,11 +282,11 @@ unfolding pendings
 axioms_wait m T first S [] n h = tt
 axioms_wait m T first S (a ∷ s) n h = ((axiom_forms (λ t. m t ≡ name_p t) (λ u. Unit {0}) T first a n.0 n.1 (each-role a.left) (each-role a.right), h.0), axioms_wait m T first S s n.2 h.1)
 
-axioms-done : (m : ℕ → Part) (R : Flat → Type 0) (s : List Axiom) → All (Done m R) (pendings s) →
+axioms_done : (m : ℕ → Part) (R : Flat → Type 0) (s : List Axiom) → All (Done m R) (pendings s) →
     All (λ a. (h : Flat) × R h × Laid m R (axiom_nf a) h) s
 unfolding pendings
-axioms-done m R [] d = tt
-axioms-done m R (a ∷ s) d = (d.0, axioms-done m R s d.1)
+axioms_done m R [] d = tt
+axioms_done m R (a ∷ s) d = (d.0, axioms_done m R s d.1)
 
 -- The theorem, for axioms whose names are below T.
 pub flatten_flattens : (find : Lookup) → Faithful find → (T : ℕ) (s : List Axiom) → AxiomNames T s →
@@ -298,7 +298,7 @@ flatten_flattens find faith T s low =
     let first = names-first find T s in
     let start = left-start find T s in
     record {
-      complete = λ R r. axioms-done m R s (left_laid find faith F (λ c. Unit) R r n [] (pendings s) (name_parts_lem T) start
+      complete = λ R r. axioms_done m R s (left_laid find faith F (λ c. Unit) R r n [] (pendings s) (name_parts_lem T) start
           (omega arith) (axioms_wait m T first (λ c. Unit) s low (all_unit s)));
       sound = λ S h. left_origin find faith F S n [] (pendings s) (name_parts_lem T) start (omega arith)
           (axioms_wait m T first S s low h) tt;

@@ -64,24 +64,24 @@ module _ (c L n : ℕ) (l : n < total c L) where
 
 -- ---- the inverse of a role set
 
-pow-two : (L : ℕ) → 2 ^ (2 * suc L) ≡ 4 * 2 ^ (2 * L)
-pow-two L = ap (λ (x : ℕ). 2 ^ x) (omega arith) ∙ pow-add 2 2 (2 * L)
+pow_two : (L : ℕ) → 2 ^ (2 * suc L) ≡ 4 * 2 ^ (2 * L)
+pow_two L = ap (λ (x : ℕ). 2 ^ x) (omega arith) ∙ pow-add 2 2 (2 * L)
 
 pub inverse_lt : (L R : ℕ) → inverse L R < 2 ^ (2 * L)
 unfolding inverse
 inverse_lt zero R = omega arith
-inverse_lt (suc L) R = omega (arith, inverse_lt L (R / 4), pow-two L)
+inverse_lt (suc L) R = omega (arith, inverse_lt L (R / 4), pow_two L)
 
 -- the two low bits and the rest
-rest-is : (u v q : ℕ) → u < 2 → v < 2 → (u + 2 * v + 4 * q) / 4 ≡ q
-rest-is u v q h k = omega arith
+rest_is : (u v q : ℕ) → u < 2 → v < 2 → (u + 2 * v + 4 * q) / 4 ≡ q
+rest_is u v q h k = omega arith
 
 pub inverse_twice : (L R : ℕ) → R < 2 ^ (2 * L) → inverse L (inverse L R) ≡ R
 unfolding inverse
 inverse_twice zero R l = omega arith
 inverse_twice (suc L) R l =
-    let i = inverse_twice L (R / 4) (omega (arith, pow-two L)) in
-    rw (rest-is (R % 4 / 2) (R % 2) (inverse L (R / 4)) (omega arith) (omega arith), i)
+    let i = inverse_twice L (R / 4) (omega (arith, pow_two L)) in
+    rw (rest_is (R % 4 / 2) (R % 2) (inverse L (R / 4)) (omega arith) (omega arith), i)
     (turn (R % 4 / 2) (R % 2) (inverse L (R / 4)) (R / 4) (omega arith) (omega arith) ∙ omega arith)
   where
     turn : (u v q s : ℕ) → u < 2 → v < 2 → (u + 2 * v + 4 * q) % 4 / 2 + 2 * ((u + 2 * v + 4 * q) % 2) + 4 * s ≡ v + 2 * u + 4 * s
@@ -95,11 +95,11 @@ inverse_twice (suc L) R l =
 bit_up : (x k : ℕ) → bit x (2 + k) ≡ bit (x / 4) k
 bit_up x k = ap (λ (q : ℕ). eqb (q % 2) 1) (sym (shr-shr x 2 k))
 
-rest-bit : (L R k : ℕ) → bit (inverse (suc L) R) (2 + k) ≡ bit (inverse L (R / 4)) k
+rest_bit : (L R k : ℕ) → bit (inverse (suc L) R) (2 + k) ≡ bit (inverse L (R / 4)) k
 unfolding inverse
-rest-bit L R k =
+rest_bit L R k =
     bit_up (inverse (suc L) R) k
-    ∙ ap (λ (x : ℕ). bit x k) (rest-is (R % 4 / 2) (R % 2) (inverse L (R / 4)) (omega arith) (omega arith))
+    ∙ ap (λ (x : ℕ). bit x k) (rest_is (R % 4 / 2) (R % 2) (inverse L (R / 4)) (omega arith) (omega arith))
 
 -- it exchanges the bits 2k and 2k + 1
 pub inverse_even : (L R k : ℕ) → k < L → bit (inverse L R) (2 * k) ≡ bit R (2 * k + 1)
@@ -113,7 +113,7 @@ inverse_even (suc L) R zero h = ap (λ (x : ℕ). eqb x 1) (low-is (R % 4 / 2) (
     back : R % 4 / 2 ≡ R / 2 % 2
     back = omega arith
 inverse_even (suc L) R (suc k) h =
-    ap (bit (inverse (suc L) R)) (omega arith) ∙ rest-bit L R (2 * k) ∙ inverse_even L (R / 4) k (omega arith)
+    ap (bit (inverse (suc L) R)) (omega arith) ∙ rest_bit L R (2 * k) ∙ inverse_even L (R / 4) k (omega arith)
     ∙ sym (bit_up R (2 * k + 1)) ∙ ap (bit R) (omega arith)
 
 pub inverse-odd : (L R k : ℕ) → k < L → bit (inverse L R) (2 * k + 1) ≡ bit R (2 * k)
@@ -127,5 +127,5 @@ inverse-odd (suc L) R zero h = ap (λ (x : ℕ). eqb x 1) (high_is (R % 4 / 2) (
     back : R % 2 ≡ R / 1 % 2
     back = omega arith
 inverse-odd (suc L) R (suc k) h =
-    ap (bit (inverse (suc L) R)) (omega arith) ∙ rest-bit L R (2 * k + 1) ∙ inverse-odd L (R / 4) k (omega arith)
+    ap (bit (inverse (suc L) R)) (omega arith) ∙ rest_bit L R (2 * k + 1) ∙ inverse-odd L (R / 4) k (omega arith)
     ∙ sym (bit_up R (2 * k)) ∙ ap (bit R) (omega arith)

@@ -14,7 +14,7 @@ use Rattle.syntax.specs.Truth.{role_on}
 use Rattle.syntax.specs.Bounds.{RolesBelow, NamesBelow, EachRole, AxiomNames, AxiomRoles, AxiomsBelow}
 use Rattle.records.proofs.KindTable.{known_cases}
 use Rattle.syntax.proofs.Trees.{nodes_length}
-use Rattle.syntax.proofs.Formed.{all_nodes, read_formed, read-counted, restriction-role, restriction-fails}
+use Rattle.syntax.proofs.Formed.{all_nodes, read_formed, read_counted, restriction-role, restriction-fails}
 
 -- the role of a record, where the roles that it names are below L
 role-below : (L : ℕ) (ns : List Node) (n k a b : ℕ) → ((shape_of k).sort ≡ 0 → ⊥) → (shape_of k).sort ≡ 2 → (k ≡ 0x10 → a < L) → (k ≡ 0x11 → a < L) →
@@ -40,17 +40,17 @@ Holds T Q (concept_n c) = Fine T Q c
 Holds T Q (role_n u) = Unit
 Holds T Q (axiom_n a) = Fine T Q a.left × Fine T Q a.right
 
-holds-concept : (T : ℕ) (Q : Role → Type 0) (n : Node) → Holds T Q n → Fine T Q (as_concept n)
+holds_concept : (T : ℕ) (Q : Role → Type 0) (n : Node) → Holds T Q n → Fine T Q (as_concept n)
 unfolding NamesBelow EachRole
-holds-concept T Q (concept_n c) h = h
-holds-concept T Q (role_n u) h = (tt, tt)
-holds-concept T Q (axiom_n a) h = (tt, tt)
+holds_concept T Q (concept_n c) h = h
+holds_concept T Q (role_n u) h = (tt, tt)
+holds_concept T Q (axiom_n a) h = (tt, tt)
 
-concept-holds : (T : ℕ) (Q : Role → Type 0) (ns : List Node) (n k a b : ℕ) → ((shape_of k).sort ≡ 0 → ⊥) → (k ≡ 0x03 → a < T) →
+concept_holds : (T : ℕ) (Q : Role → Type 0) (ns : List Node) (n k a b : ℕ) → ((shape_of k).sort ≡ 0 → ⊥) → (k ≡ 0x03 → a < T) →
     (is_restriction_lem (shape_of k) ≡ true → Q (role_at ns a)) → ((shape_of k).first ≡ 1 → Fine T Q (concept_at ns a)) →
     ((shape_of k).second ≡ 1 → Fine T Q (concept_at ns b)) → Holds T Q (node_of ns n k a b)
 unfolding shape_of is_restriction_lem node_of NamesBelow EachRole
-concept-holds T Q ns n k a b known =
+concept_holds T Q ns n k a b known =
     known_cases P
     (λ t q f g. (tt, tt)) (λ t q f g. (tt, tt)) (λ t q f g. (t refl, tt)) (λ t q f g. f refl)
     (λ t q f g. (((f refl).0, (g refl).0), ((f refl).1, (g refl).1))) (λ t q f g. (((f refl).0, (g refl).0), ((f refl).1, (g refl).1)))
@@ -83,7 +83,7 @@ module _ (sheet : List ℕ) (st : State) (e : scan_sheet sheet ≡ whole st) whe
       all_nodes (λ r n. (shape_of (record_at_lem es r).kind).sort ≡ 2 → RolesBelow st.roles (as_role n)) es
       (λ r l h s.
       let f = (read_formed sheet st e).each r l in
-      let c = read-counted sheet st e r l in
+      let c = read_counted sheet st e r l in
       role-below st.roles (take r (nodes_of es)) r (record_at_lem es r).kind (record_at_lem es r).first (record_at_lem es r).second f.known s
       c.named c.inverse
       (λ q. let w = f.first (λ z. omega arith) in h (record_at_lem es r).first w.0 (w.1 ∙ q))
@@ -99,13 +99,13 @@ module _ (sheet : List ℕ) (st : State) (e : scan_sheet sheet ≡ whole st) whe
       all_nodes (λ _ n. Holds st.names Q n) es
       (λ r l h.
       let f = (read_formed sheet st e).each r l in
-      concept-holds st.names Q (take r (nodes_of es)) r (record_at_lem es r).kind (record_at_lem es r).first (record_at_lem es r).second f.known
-      (read-counted sheet st e r l).name
+      concept_holds st.names Q (take r (nodes_of es)) r (record_at_lem es r).kind (record_at_lem es r).first (record_at_lem es r).second f.known
+      (read_counted sheet st e r l).name
       (λ q.
       let w = f.first (λ z. omega (arith, restriction-role (shape_of (record_at_lem es r).kind) q)) in
       rw (get_or-take r (nodes_of es) (record_at_lem es r).first no_node w.0) (restricted r l q))
-      (λ q. holds-concept st.names Q (get_or (take r (nodes_of es)) (record_at_lem es r).first no_node) (h (record_at_lem es r).first (f.first (λ z. omega arith)).0))
-      (λ q. holds-concept st.names Q (get_or (take r (nodes_of es)) (record_at_lem es r).second no_node) (h (record_at_lem es r).second (f.second (λ z. omega arith)).0)))
+      (λ q. holds_concept st.names Q (get_or (take r (nodes_of es)) (record_at_lem es r).first no_node) (h (record_at_lem es r).first (f.first (λ z. omega arith)).0))
+      (λ q. holds_concept st.names Q (get_or (take r (nodes_of es)) (record_at_lem es r).second no_node) (h (record_at_lem es r).second (f.second (λ z. omega arith)).0)))
       r (omega (arith, nodes_length es)))
 
   -- the names and roles of the axioms are below the counts

@@ -28,13 +28,13 @@ unnamed e = record { kind = e.kind; first = e.first; second = e.second; named = 
 abbrev bare : List Entry → List Entry
 bare es = map unnamed es
 
-bare-at : (es : List Entry) (r : ℕ) → record_at_lem (bare es) r ≡ unnamed (record_at_lem es r)
-bare-at es r = get_or-map unnamed es r blank
+bare_at : (es : List Entry) (r : ℕ) → record_at_lem (bare es) r ≡ unnamed (record_at_lem es r)
+bare_at es r = get_or-map unnamed es r blank
 
 -- naming changes nothing else
-pub name-bare : (es : List Entry) (wanted r : ℕ) → bare (name es wanted r) ≡ bare es
+pub name_bare : (es : List Entry) (wanted r : ℕ) → bare (name es wanted r) ≡ bare es
 unfolding name
-name-bare es wanted r = go (eqb wanted 0)
+name_bare es wanted r = go (eqb wanted 0)
   where
     go : (b : Bool) → bare (cond b es (set es r (naming (record_at_lem es r)))) ≡ bare es
     go true = refl
@@ -97,14 +97,14 @@ abbrev Sorted : List Entry → Type 0
 Sorted es = (r : ℕ) → r < length es → (record_at_lem es r).sort ≡ (shape_of (record_at_lem es r).kind).sort
 
 reference_finds : (es xs : List Entry) → bare es ≡ xs → Sorted xs → (wanted r : ℕ) → reference_fault_lem es wanted r ≡ 0 → Finds xs (length xs) wanted r
-reference_finds es xs x s wanted r p n = (within, sym (s r within) ∙ rw (← x, bare-at es r) (reference-right es wanted r p n).1)
+reference_finds es xs x s wanted r p n = (within, sym (s r within) ∙ rw (← x, bare_at es r) (reference-right es wanted r p n).1)
   where
     within : r < length xs
     within = rw (← x, length-map) (reference-right es wanted r p n).0
 
 empty_restricted : (es xs : List Entry) → bare es ≡ xs → (s : Shape) (a : ℕ) → empty_fault_lem es s a ≡ 0 → is_restriction_lem s ≡ true → (record_at_lem xs a).vacuous ≡ false
 unfolding empty_fault_lem
-empty_restricted es xs x s a p q = rw (← x, bare-at es a) (go (record_at_lem es a).vacuous (rw q at p))
+empty_restricted es xs x s a p q = rw (← x, bare_at es a) (go (record_at_lem es a).vacuous (rw q at p))
   where
     go : (v : Bool) → ◌≡◌ {A = ℕ} (cond (true && v) 8 0) 0 → v ≡ false
     go true p = absurd (omega arith)
@@ -112,7 +112,7 @@ empty_restricted es xs x s a p q = rw (← x, bare-at es a) (go (record_at_lem e
 
 vacuous_bare : (es xs : List Entry) → bare es ≡ xs → (k a b : ℕ) → vacuous_of_lem es k a b ≡ vacuous_of_lem xs k a b
 unfolding vacuous_of_lem
-vacuous_bare es xs x k a b = rw (← x, bare-at es a, bare-at es b)
+vacuous_bare es xs x k a b = rw (← x, bare_at es a, bare_at es b)
 
 -- a record without fault, after those that were read
 new_right : (es xs : List Entry) → bare es ≡ xs → Sorted xs → (k a b : ℕ) → ((shape_of k).sort ≡ 0 → ⊥) → (body_fault es (shape_of k) a b).number ≡ 0 → Right xs (entry_for es k a b)
@@ -126,7 +126,7 @@ new_right es xs x s k a b n p =
             known = n;
             number = w.0;
             first = reference_finds es xs x s (shape_of k).first a w.1;
-            second = reference_finds (name es (shape_of k).first a) xs (name-bare es (shape_of k).first a ∙ x) s (shape_of k).second b w.2;
+            second = reference_finds (name es (shape_of k).first a) xs (name_bare es (shape_of k).first a ∙ x) s (shape_of k).second b w.2;
             restricted = empty_restricted es xs x (shape_of k) a w.3;
           };
       vacuous = vacuous_bare es xs x k a b;
@@ -179,20 +179,20 @@ more_counted m n p q h i c =
       inverse = λ k. let l = c.inverse k in omega arith;
     }
 
-bare-after : (st : State) (k a b : ℕ) → bare (after st k a b).records ≡ bare st.records ++ (entry_for st.records k a b ∷ [])
+bare_after : (st : State) (k a b : ℕ) → bare (after st k a b).records ≡ bare st.records ++ (entry_for st.records k a b ∷ [])
 unfolding after
-bare-after st k a b =
+bare_after st k a b =
     map-append unnamed (name (name st.records (shape_of k).first a) (shape_of k).second b) (entry_for st.records k a b ∷ []) ∙
     ap (λ (l : List Entry). l ++ (entry_for st.records k a b ∷ []))
-    (name-bare (name st.records (shape_of k).first a) (shape_of k).second b ∙ name-bare st.records (shape_of k).first a)
+    (name_bare (name st.records (shape_of k).first a) (shape_of k).second b ∙ name_bare st.records (shape_of k).first a)
 
 after-good : (room : ℕ) (st : State) (k a b : ℕ) → ((shape_of k).sort ≡ 0 → ⊥) → (body_fault st.records (shape_of k) a b).number ≡ 0 → Good (suc room) st → Good room (after st k a b)
 unfolding after
 after-good room st k a b n p g =
     record {
-      few = omega (arith, ap length (bare-after st k a b), length-map (after st k a b).records unnamed, length-map st.records unnamed, length-append (bare st.records) (e ∷ []), g.few);
-      right = rw (bare-after st k a b) (each_snoc Right (bare st.records) e g.right new);
-      counted = rw (bare-after st k a b) (each_snoc (λ xs e. Counted names roles e) (bare st.records) e old now);
+      few = omega (arith, ap length (bare_after st k a b), length-map (after st k a b).records unnamed, length-map st.records unnamed, length-append (bare st.records) (e ∷ []), g.few);
+      right = rw (bare_after st k a b) (each_snoc Right (bare st.records) e g.right new);
+      counted = rw (bare_after st k a b) (each_snoc (λ xs e. Counted names roles e) (bare st.records) e old now);
       names = more.0.1 g.names;
       roles = most.0.1 g.roles;
     }
@@ -236,7 +236,7 @@ read-good sheet st e = let w = scan-keeps Good sheet (λ room st l. record_good 
 
 -- the records before r, as written
 before_at : (es : List Entry) (r i : ℕ) → i < r → record_at_lem (take r (bare es)) i ≡ unnamed (record_at_lem es i)
-before_at es r i h = get_or-take r (bare es) i blank h ∙ bare-at es i
+before_at es r i h = get_or-take r (bare es) i blank h ∙ bare_at es i
 
 -- a restriction's first reference is a role
 pub restriction-role : (s : Shape) → is_restriction_lem s ≡ true → s.first ≡ 2
@@ -309,7 +309,7 @@ module _ (sheet : List ℕ) (st : State) (e : scan_sheet sheet ≡ whole st) whe
   es = st.records
 
   right-at : (r : ℕ) → r < length es → Right (take r (bare es)) (unnamed (record_at_lem es r))
-  right-at r l = rw (bare-at es r) at ((read-good sheet st e).1.right r (rw length-map l))
+  right-at r l = rw (bare_at es r) at ((read-good sheet st e).1.right r (rw length-map l))
 
   pub read_formed : Formed es
   read_formed =
@@ -321,9 +321,9 @@ module _ (sheet : List ℕ) (st : State) (e : scan_sheet sheet ≡ whole st) whe
   pub read-few : (st.names ≤ 12) × (st.roles ≤ 4)
   read-few = ((read-good sheet st e).1.names, (read-good sheet st e).1.roles)
 
-  pub read-counted : (r : ℕ) → r < length es → Counted st.names st.roles (record_at_lem es r)
-  read-counted r l =
-      let c = rw (bare-at es r) at ((read-good sheet st e).1.counted r (rw length-map l)) in
+  pub read_counted : (r : ℕ) → r < length es → Counted st.names st.roles (record_at_lem es r)
+  read_counted r l =
+      let c = rw (bare_at es r) at ((read-good sheet st e).1.counted r (rw length-map l)) in
       record { name = c.name; named = c.named; inverse = c.inverse }
 
   -- a record's flag says whether its role holds on the empty role set

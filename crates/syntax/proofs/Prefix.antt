@@ -3,7 +3,7 @@ use Prim.Native.Nat.{ℕ, ◌≤◌}
 use mathlib.Core.Path.{◌≡◌, ap}
 use mathlib.Core.List.{List}
 use lib.ListN.{length, take}
-use Rattle.records.proofs.Prefix.{long-faulty, scan-front}
+use Rattle.records.proofs.Prefix.{long-faulty, scan_front}
 use Rattle.syntax.specs.Reading.{refusal, reading, read_kb}
 
 -- "a sheet that long always holds a fault by then"
@@ -12,6 +12,6 @@ unfolding read_kb reading
 long-refused limit sheet long = let w = long-faulty sheet long in (w.0, w.1, ap (reading limit) w.2)
 
 -- its first 766 bytes decide
-pub read-front : (limit : ℕ) (sheet : List ℕ) → read_kb limit (take 766 sheet) ≡ read_kb limit sheet
+pub read_front : (limit : ℕ) (sheet : List ℕ) → read_kb limit (take 766 sheet) ≡ read_kb limit sheet
 unfolding read_kb
-read-front limit sheet = ap (reading limit) (scan-front sheet)
+read_front limit sheet = ap (reading limit) (scan_front sheet)

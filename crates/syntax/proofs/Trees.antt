@@ -83,34 +83,34 @@ concept_by es r e = as_concept (node_by es r e)
 abbrev role_by : List Entry → ℕ → Entry → Role
 role_by es r e = as_role (node_by es r e)
 
-pub concept-is : (es : List Entry) (below r : ℕ) (e : Entry) → r < below → e ≡ record_at_lem es r → concept_below es below r ≡ concept_by es r e
+pub concept_is : (es : List Entry) (below r : ℕ) (e : Entry) → r < below → e ≡ record_at_lem es r → concept_below es below r ≡ concept_by es r e
 unfolding concept_below
-concept-is es below r e h p = ap as_concept (node_below es below r e h p)
+concept_is es below r e h p = ap as_concept (node_below es below r e h p)
 
 pub role-is : (es : List Entry) (below r : ℕ) (e : Entry) → r < below → e ≡ record_at_lem es r → role_below es below r ≡ role_by es r e
 unfolding role_below
 role-is es below r e h p = ap as_role (node_below es below r e h p)
 
-pub concept-past : (es : List Entry) (below r : ℕ) → below ≤ r → concept_below es below r ≡ bottom_c
+pub concept_past : (es : List Entry) (below r : ℕ) → below ≤ r → concept_below es below r ≡ bottom_c
 unfolding concept_below
-concept-past es below r h = ap as_concept (node_past es below r h)
+concept_past es below r h = ap as_concept (node_past es below r h)
 
 pub role-past : (es : List Entry) (below r : ℕ) → below ≤ r → role_below es below r ≡ named 0
 unfolding role_below
 role-past es below r h = ap as_role (node_past es below r h)
 
 -- below any number above r, or that reaches all records, the concept of r is the same
-pub concept-low : (es : List Entry) (m n r : ℕ) → r < m → r < n → concept_below es m r ≡ concept_below es n r
+pub concept_low : (es : List Entry) (m n r : ℕ) → r < m → r < n → concept_below es m r ≡ concept_below es n r
 unfolding concept_below
-concept-low es m n r h k = ap as_concept (get_or-take m (nodes_of es) r no_node h ∙ sym (get_or-take n (nodes_of es) r no_node k))
+concept_low es m n r h k = ap as_concept (get_or-take m (nodes_of es) r no_node h ∙ sym (get_or-take n (nodes_of es) r no_node k))
 
 pub role-low : (es : List Entry) (m n r : ℕ) → r < m → r < n → role_below es m r ≡ role_below es n r
 unfolding role_below
 role-low es m n r h k = ap as_role (get_or-take m (nodes_of es) r no_node h ∙ sym (get_or-take n (nodes_of es) r no_node k))
 
-pub concept-all : (es : List Entry) (n r : ℕ) → length es ≤ n → concept_below es (length es) r ≡ concept_below es n r
+pub concept_all : (es : List Entry) (n r : ℕ) → length es ≤ n → concept_below es (length es) r ≡ concept_below es n r
 unfolding concept_below
-concept-all es n r h = rw (take_all n (nodes_of es) (omega (arith, nodes_length es)), take_all (length es) (nodes_of es) (omega (arith, nodes_length es)))
+concept_all es n r h = rw (take_all n (nodes_of es) (omega (arith, nodes_length es)), take_all (length es) (nodes_of es) (omega (arith, nodes_length es)))
 
 -- a kind that is none of the table's stands for no tree
 pub node_unknown : (k : ℕ) → (shape_of k).sort ≡ 0 → (ns : List Node) (n a b : ℕ) → node_of ns n k a b ≡ no_node
@@ -139,9 +139,9 @@ module _ (es : List Entry) (r : ℕ) (e : Entry) where
   node_as k = node_of (take r (nodes_of es)) r k e.first e.second
 
   -- every kind but 1, 3 to 8 is nothing
-  pub concept-none : (e.kind ≡ 1 → ⊥) → (e.kind ≡ 3 → ⊥) → (4 ≤ e.kind → 8 < e.kind) → concept_by es r e ≡ bottom_c
+  pub concept_none : (e.kind ≡ 1 → ⊥) → (e.kind ≡ 3 → ⊥) → (4 ≤ e.kind → 8 < e.kind) → concept_by es r e ≡ bottom_c
   unfolding node_of
-  concept-none n1 n3 o =
+  concept_none n1 n3 o =
       kind_cases (λ k. e.kind ≡ k → as_concept (node_as k) ≡ bottom_c)
       (λ q. absurd (n1 q)) (λ q. refl) (λ q. absurd (n3 q)) (λ q. absurd (off (omega arith) (omega arith))) (λ q. absurd (off (omega arith) (omega arith)))
       (λ q. absurd (off (omega arith) (omega arith))) (λ q. absurd (off (omega arith) (omega arith))) (λ q. absurd (off (omega arith) (omega arith)))
