@@ -232,7 +232,7 @@ module _ (sheet : List ℕ) (n : ℕ) (st : State) (r : Reached sheet n st) wher
             later = λ q. absurd (omega arith);
             earlier = λ q. omega (arith, e, below);
             a-role = λ q. absurd (omega arith);
-            a-concept = λ q. (omega (arith, d, some, low, i, f), found ∙ f);
+            a_concept = λ q. (omega (arith, d, some, low, i, f), found ∙ f);
             an_axiom = λ q. absurd (omega arith);
             again = λ q. absurd (omega arith);
           }
@@ -241,7 +241,7 @@ module _ (sheet : List ℕ) (n : ℕ) (st : State) (r : Reached sheet n st) wher
             later = λ q. absurd (omega arith);
             earlier = λ q. omega (arith, e, below);
             a-role = λ q. (omega (arith, d, some, low, i, f), found ∙ f);
-            a-concept = λ q. absurd (omega arith);
+            a_concept = λ q. absurd (omega arith);
             an_axiom = λ q. absurd (omega arith);
             again = λ q. absurd (omega arith);
           }
@@ -250,7 +250,7 @@ module _ (sheet : List ℕ) (n : ℕ) (st : State) (r : Reached sheet n st) wher
             later = λ q. absurd (omega arith);
             earlier = λ q. omega (arith, e, below);
             a-role = λ q. absurd (omega arith);
-            a-concept = λ q. absurd (omega arith);
+            a_concept = λ q. absurd (omega arith);
             an_axiom = λ q. axiom_left a b;
             again = λ q. absurd (omega arith);
           }
@@ -261,7 +261,7 @@ module _ (sheet : List ℕ) (n : ℕ) (st : State) (r : Reached sheet n st) wher
             later = λ q. absurd (omega arith);
             earlier = λ q. omega (arith, e, below);
             a-role = λ q. absurd (omega arith);
-            a-concept = λ q. absurd (omega arith);
+            a_concept = λ q. absurd (omega arith);
             an_axiom = λ q. absurd (omega arith);
             again = λ q. (found ∙ i ∙ sym d, sym (t.leaves m below) ∙ l, (t.flags m below).0 k);
           }
@@ -272,7 +272,7 @@ module _ (sheet : List ℕ) (n : ℕ) (st : State) (r : Reached sheet n st) wher
           later = λ q. omega (arith, e, h, t.count);
           earlier = λ q. absurd (q j);
           a-role = λ q. absurd (omega arith);
-          a-concept = λ q. absurd (omega arith);
+          a_concept = λ q. absurd (omega arith);
           an_axiom = λ q. absurd (omega arith);
           again = λ q. absurd (omega arith);
         }

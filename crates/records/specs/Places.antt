@@ -56,7 +56,7 @@ pub record Misnames (sheet : List ℕ) (n p : ℕ) (r : Reference sheet p) : Typ
   pub earlier : (n ≡ 5 → ⊥) → get_or sheet p 0 < r.number
   -- "6 now means a link where a class is wanted, 16 a class where a link is wanted, 17 a rule named"
   pub a-role : n ≡ 6 → (wanted_by r ≡ 1) × ((named_shape sheet p).sort ≡ 2)
-  pub a-concept : n ≡ 16 → (wanted_by r ≡ 2) × ((named_shape sheet p).sort ≡ 1)
+  pub a_concept : n ≡ 16 → (wanted_by r ≡ 2) × ((named_shape sheet p).sort ≡ 1)
   pub an_axiom : n ≡ 17 → (named_shape sheet p).sort ≡ 3
   -- 7: "already named once and not allowed again", so of the sort wanted, and no leaf
   pub again : n ≡ 7 →
