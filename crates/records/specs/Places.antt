@@ -62,7 +62,7 @@ pub record Misnames (sheet : List ℕ) (n p : ℕ) (r : Reference sheet p) : Typ
   pub again : n ≡ 7 →
       ((named_shape sheet p).sort ≡ wanted_by r) × (is_leaf_lem (named_shape sheet p) ≡ false) × NamedBefore sheet (get_or sheet p 0) p
 
--- how the references of a sheet without fault name its records es (`KindTable.leaf-kinds`: the leaves are the kinds that 01 lists)
+-- how the references of a sheet without fault name its records es (`KindTable.leaf_kinds`: the leaves are the kinds that 01 lists)
 pub record NamedRightly (sheet : List ℕ) (es : List Entry) : Type 0 where
   -- "a reference is one byte naming an earlier record", of the sort wanted
   pub earlier : (p : ℕ) (r : Reference sheet p) → (get_or sheet p 0 < r.number) × ((named_shape sheet p).sort ≡ wanted_by r)

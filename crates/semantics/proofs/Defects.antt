@@ -184,7 +184,7 @@ module _ (v : View) where
       × (B < 2 ^ v.parts) × (v.holds k R ≡ true) × (test B ≡ true) × (D A R B ≡ true)
   unfolding witness
   witness_found D A k test e =
-      let w = any_found (2 ^ (2 * v.roles)) (λ R. v.holds k R && some (2 ^ v.parts) (λ B. test B && D A R B)) e in
+      let w = any_found _ (λ R. v.holds k R && some (2 ^ v.parts) (λ B. test B && D A R B)) e in
       let R : ℕ = w.0 in
       let u = any_found (2 ^ v.parts) (λ B. test B && D A R B) (and_r_lem (v.holds k R) (some (2 ^ v.parts) (λ B. test B && D A R B)) w.2) in
       let B : ℕ = u.0 in (
@@ -225,7 +225,7 @@ module _ (v : View) where
     unfolding deluni
     deluni_mono e =
         all_intro v.parts _ (λ k h.
-        imp_mono (eqb (v.kind k) 3 && not (bit A k)) (witness v D A k (λ B. not (v.has k B))) _ (witness_mono k (λ B. not (v.has k B)))
+        imp_mono _ _ _ (witness_mono k (λ B. not (v.has k B)))
         (all-at v.parts _ e k h))
 
     larger : (R B : ℕ) → (sym v D A R B ≡ true → sym v E A R B ≡ true) → sustained v D A R B ≡ true → sustained v E A R B ≡ true
