@@ -5,6 +5,8 @@ ghost use Rattle.std.specs.Prelude.{◌≤◌, ◌≡◌, take};
 ghost use Rattle.console.specs.Input.{Within, next_read_lem};
 ghost use Rattle.console.specs.Output.{handed};
 
+use std::io::{Print, Read, Stderr, Stdout};
+
 #[derive(Clone, Copy)]
 pub enum Input {
     // A read failed.
@@ -33,14 +35,13 @@ pub struct Printed {
 }
 
 // One read into the buffer. What the system's read brings no contract can say; held by process tests alone.
-fn read_some(buffer: &mut [u8]) -> Input
+fn read_some<R: Read>(from: &mut R, buffer: &mut [u8]) -> Input
     ensures { Within result buffer.new }
 {
-    let got = libc::read(libc::STDIN_FILENO, buffer);
-    if got < 0 {
-        return Input::Failed;
+    match from.read(buffer) {
+        Ok(n) => Input::Got(n),
+        Err(_) => Input::Failed,
     }
-    Input::Got(io::count(got, buffer))
 }
 
 // What follows a read behind the bytes that are done, in a buffer of this length.
@@ -64,12 +65,12 @@ fn next_read(done: usize, some: Input, room: usize) -> Next
 
 // Reads until the buffer is full, the input ends or a read fails, whatever each read brings. That each answer comes from reads no
 // contract can say, since what they brought is in none; held by process tests alone.
-pub fn read_all(buffer: &mut [u8]) -> Input
+pub fn read_all<R: Read>(from: &mut R, buffer: &mut [u8]) -> Input
     ensures { Within result buffer.new }
 {
     let mut done: usize = 0;
     while done < buffer.len() {
-        let some = read_some(&mut buffer[done..]);
+        let some = read_some(from, &mut buffer[done..]);
         let next = next_read(done, some, buffer.len());
         match next {
             Next::Failed => return Input::Failed,
@@ -82,11 +83,11 @@ pub fn read_all(buffer: &mut [u8]) -> Input
 
 // Writes the first bytes of a text to standard output. What the system's write takes no contract can say; held by process tests
 // alone.
-pub fn print(text: [u8; 160], count: usize) -> Printed
+pub fn print(stdout: &Stdout, text: [u8; 160], count: usize) -> Printed
     requires { count ≤ 160 }
     ensures { handed result ≡ take count text }
 {
-    let whole = io::write_all(libc::STDOUT_FILENO, &text[..count]);
+    let whole = stdout.write_all(&text[..count]).is_ok();
     Printed {
         text: text,
         count: count,
@@ -95,6 +96,6 @@ pub fn print(text: [u8; 160], count: usize) -> Printed
 }
 
 // Writes a text to standard error; there is nobody to tell if that fails.
-pub fn complain(text: &[u8]) {
-    io::write_all(libc::STDERR_FILENO, text);
+pub fn complain(stderr: &Stderr, text: &[u8]) {
+    let _ = stderr.write_all(text);
 }
