@@ -9,13 +9,14 @@ ghost use Rattle.report.specs.Lines.{printed};
 ghost use Rattle.evening.specs.Sheet.{most, answered};
 
 use console::{Input, Printed, complain};
+use std::io::{Read, Stdout};
 
 // Reads the sheet, as much of the input as a sheet may have and one byte more.
-fn read_sheet(buffer: &mut [u8]) -> Input
+fn read_sheet<R: Read>(from: &mut R, buffer: &mut [u8]) -> Input
     requires { length buffer.old ≡ most }
     ensures { Within result buffer.new }
 {
-    console::read_all(buffer)
+    console::read_all(from, buffer)
 }
 
 // The lines of a sheet, judged with 4,096 words, at the front of the buffer; answers how many bytes.
@@ -39,24 +40,25 @@ fn answer(input: Input, buffer: &[u8], out: &mut [u8]) -> usize
 }
 
 // Prints the lines of what was read.
-fn print(input: Input, buffer: &[u8]) -> Printed
+fn print(stdout: &Stdout, input: Input, buffer: &[u8]) -> Printed
     requires { Within input buffer.now }
     ensures { handed result ≡ answered input buffer.now }
 {
     let mut out = [0u8; 160];
     let n = answer(input, buffer, &mut out);
-    console::print(out, n)
+    console::print(stdout, out, n)
 }
 
 // What is read no contract can say, and `main` answers nothing: held by process tests alone.
-fn main() {
+fn main(rt: HostRuntime) {
     let mut buffer = [0u8; 766];
-    let input = read_sheet(&mut buffer);
-    let printed = print(input, &buffer);
+    let input = read_sheet(&mut rt.stdin(), &mut buffer);
+    let printed = print(&rt.stdout(), input, &buffer);
+    let stderr = rt.stderr();
     if let Input::Failed = input {
-        complain(b"evening: standard input cannot be read\n");
+        complain(&stderr, b"evening: standard input cannot be read\n");
     }
     if !printed.whole {
-        complain(b"evening: standard output cannot be written\n");
+        complain(&stderr, b"evening: standard output cannot be written\n");
     }
 }
