@@ -9,6 +9,7 @@ ghost use Rattle.queue.specs.Steps.{Reached, ReadsStep, Takes, Turns, Served};
 use crate::steps::{Stepped, step, wanted};
 use crate::totals::{Totals, none};
 use console::{Input, Printed, complain, read_all};
+use std::io::{Read, Stderr, Stdout};
 
 mod lines;
 mod slots;
@@ -25,12 +26,12 @@ pub struct Turned {
 
 // Reads what the next step wants behind its kind. The count is bounded; which bytes are read no contract can say, and process
 // tests alone hold it, here and in `read_step`.
-fn read_rest(buffer: &mut [u8], sheets: u64) -> Input
+fn read_rest<R: Read>(from: &mut R, buffer: &mut [u8], sheets: u64) -> Input
     requires { length buffer.old ≡ 768 }
     ensures { ReadsStep sheets result buffer.new }
 {
     let all = wanted(sheets, buffer[0]);
-    let rest = read_all(&mut buffer[1..all]);
+    let rest = read_all(from, &mut buffer[1..all]);
     match rest {
         Input::Failed => Input::Failed,
         Input::Got(m) => Input::Got(1 + m),
@@ -38,18 +39,18 @@ fn read_rest(buffer: &mut [u8], sheets: u64) -> Input
 }
 
 // Reads what the next step wants.
-fn read_step(buffer: &mut [u8], sheets: u64) -> Input
+fn read_step<R: Read>(from: &mut R, buffer: &mut [u8], sheets: u64) -> Input
     requires { length buffer.old ≡ 768 }
     ensures { ReadsStep sheets result buffer.new }
 {
-    let first = read_all(&mut buffer[..1]);
+    let first = read_all(from, &mut buffer[..1]);
     match first {
         Input::Failed => Input::Failed,
         Input::Got(n) => {
             if n == 0 {
                 return Input::Got(0);
             }
-            read_rest(buffer, sheets)
+            read_rest(from, buffer, sheets)
         }
     }
 }
@@ -70,17 +71,24 @@ fn take_step(t: Totals, input: Input, buffer: &[u8], set: &mut [u64], out: &mut 
 }
 
 // Tells what the system refused.
-fn tell(input: Input, whole: bool) {
+fn tell(stderr: &Stderr, input: Input, whole: bool) {
     if let Input::Failed = input {
-        complain(b"queue: standard input cannot be read\n");
+        complain(stderr, b"queue: standard input cannot be read\n");
     }
     if !whole {
-        complain(b"queue: standard output cannot be written\n");
+        complain(stderr, b"queue: standard output cannot be written\n");
     }
 }
 
 // Takes the step of what was read and prints its line.
-fn turn(t: Totals, input: Input, buffer: &[u8], set: &mut [u64]) -> Turned
+fn turn(
+    stdout: &Stdout,
+    stderr: &Stderr,
+    t: Totals,
+    input: Input,
+    buffer: &[u8],
+    set: &mut [u64],
+) -> Turned
     requires { Reached t × Within input buffer.now × (length set.old ≡ 4096) }
     ensures { Turns t input buffer.now set.old set.new result }
 {
@@ -88,9 +96,9 @@ fn turn(t: Totals, input: Input, buffer: &[u8], set: &mut [u64]) -> Turned
     let s = take_step(t, input, buffer, set, &mut out);
     let k = s.written;
     let totals = s.totals;
-    let printed = console::print(out, k);
+    let printed = console::print(stdout, out, k);
     let whole = printed.whole;
-    tell(input, whole);
+    tell(stderr, input, whole);
     Turned {
         totals: totals,
         going: s.going && whole,
@@ -100,14 +108,20 @@ fn turn(t: Totals, input: Input, buffer: &[u8], set: &mut [u64]) -> Turned
 
 // Takes turns until there is nothing more to come, and answers the last. What each read brings no contract can say: that the
 // turns read the input one piece after another is held by process tests alone.
-fn serve(buffer: &mut [u8], set: &mut [u64]) -> Turned
+fn serve<R: Read>(
+    from: &mut R,
+    stdout: &Stdout,
+    stderr: &Stderr,
+    buffer: &mut [u8],
+    set: &mut [u64],
+) -> Turned
     requires { (length buffer.old ≡ 768) × (length set.old ≡ 4096) }
     ensures { Served result }
 {
     let mut t = none();
     loop {
-        let input = read_step(buffer, t.sheets);
-        let next = turn(t, input, buffer, set);
+        let input = read_step(from, buffer, t.sheets);
+        let next = turn(stdout, stderr, t, input, buffer, set);
         if !next.going {
             return next;
         }
@@ -116,8 +130,14 @@ fn serve(buffer: &mut [u8], set: &mut [u64]) -> Turned
 }
 
 // `main` answers nothing: that it serves is held by process tests alone.
-fn main() {
+fn main(rt: HostRuntime) {
     let mut buffer = [0u8; 768];
     let mut set = [0u64; 4096];
-    serve(&mut buffer, &mut set);
+    serve(
+        &mut rt.stdin(),
+        &rt.stdout(),
+        &rt.stderr(),
+        &mut buffer,
+        &mut set,
+    );
 }
