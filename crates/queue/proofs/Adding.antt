@@ -37,18 +37,18 @@ totals-added answers a =
 -- ---- the sheets
 
 -- every answer is of one kind
-counted-one : (a : SlotAnswer) → met_in a + unmet_in a + refused_in a ≡ 1
+counted_one : (a : SlotAnswer) → met_in a + unmet_in a + refused_in a ≡ 1
 unfolding met_in unmet_in refused_in
-counted-one (Met s) = refl
-counted-one (Unmet s) = refl
-counted-one (Refused n) = refl
+counted_one (Met s) = refl
+counted_one (Unmet s) = refl
+counted_one (Refused n) = refl
 
 -- so met, unmet and refused are the sheets
-pub totals-counted : (answers : List SlotAnswer)
+pub totals_counted : (answers : List SlotAnswer)
     → (totals_of answers).met + (totals_of answers).unmet + (totals_of answers).refused ≡ (totals_of answers).sheets
 unfolding totals_of sum
-totals-counted [] = refl
-totals-counted (a ∷ rest) = omega (arith, counted-one a, totals-counted rest)
+totals_counted [] = refl
+totals_counted (a ∷ rest) = omega (arith, counted_one a, totals_counted rest)
 
 -- ---- the slots that came
 
@@ -88,7 +88,7 @@ reached-small t r =
     let answers : List SlotAnswer = map slot_says r.slots in
     let n : (totals_of answers).sheets ≡ length r.slots = unfold totals_of in length-map r.slots slot_says in
     let s : (totals_of answers).survivors ≤ 262144 * length r.slots = unfold totals_of in survivors-small r.slots in
-    let c = totals-counted answers in
+    let c = totals_counted answers in
     let few = r.few in
     let small : Small (totals_of answers) =
     record { sheets = omega arith; met = omega arith; unmet = omega arith; refused = omega arith; survivors = omega arith } in

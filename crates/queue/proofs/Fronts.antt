@@ -16,14 +16,14 @@ use Rattle.queue.specs.Steps.{added, takes, step_totals, step_prints, wanted}
 -- ---- a front of the input
 
 -- it has the kind
-kind-front : (n : ℕ) (input : List ℕ) → kind_of (take (suc n) input) ≡ kind_of input
-kind-front n [] = refl
-kind-front n (b ∷ rest) = refl
+kind_front : (n : ℕ) (input : List ℕ) → kind_of (take (suc n) input) ≡ kind_of input
+kind_front n [] = refl
+kind_front n (b ∷ rest) = refl
 
 -- so it ends the queue or does not, alike
 end_front : (n : ℕ) (input : List ℕ) → end_first (take (suc n) input) ≡ end_first input
 unfolding end_first
-end_front n input = rw (kind-front n input)
+end_front n input = rw (kind_front n input)
 
 -- 768 bytes have the slot, if it is whole
 slot_front : (input : List ℕ) → slot_of (take 768 input) ≡ slot_of input
@@ -32,17 +32,17 @@ slot_front [] = refl
 slot_front (b ∷ rest) = take-take 767 767 rest (omega arith)
 
 -- a front of 768 bytes is as long if they are there
-long-front : (input : List ℕ) → ltb 767 (length (take 768 input)) ≡ ltb 767 (length input)
-long-front input = go (ltb 767 (length input)) refl
+long_front : (input : List ℕ) → ltb 767 (length (take 768 input)) ≡ ltb 767 (length input)
+long_front input = go (ltb 767 (length input)) refl
   where
     go : (b : Bool) → ltb 767 (length input) ≡ b → ltb 767 (length (take 768 input)) ≡ ltb 767 (length input)
     go true e = rw (length-take-le 768 input (ltb-true 767 (length input) e)) (sym e)
     go false e = ap (λ (l : List ℕ). ltb 767 (length l)) (take_all 768 input (omega (arith, ltb-false 767 (length input) e)))
 
 -- so a whole slot stands in front of both, or of neither
-first-front : (input : List ℕ) → slot_first (take 768 input) ≡ slot_first input
+first_front : (input : List ℕ) → slot_first (take 768 input) ≡ slot_first input
 unfolding slot_first
-first-front input = rw (kind-front 767 input, long-front input)
+first_front input = rw (kind_front 767 input, long_front input)
 
 -- a slot in front is whole
 pub first-long : (input : List ℕ) → slot_first input ≡ true → 768 ≤ length input
@@ -94,13 +94,13 @@ module _ (t : Totals) (input : List ℕ) where
       go : (a b : Bool) → eqb (kind_of input) 0x30 ≡ a → ltb t.sheets most ≡ b → Enough (take (cond (a && b) 768 1) input)
       go true true p q =
           record {
-            takes_it = unfold takes in rw (first-front input);
+            takes_it = unfold takes in rw (first_front input);
             ends = end_front 767 input;
             slot = λ h. slot_front input;
             long = λ h. length-take-le 768 input (takes-long h);
           }
       go true false p q = idle 0 (over q (take 1 input)) (over q input)
-      go false b p q = idle 0 (other (take 1 input) (ap (λ (k : ℕ). eqb k 0x30) (kind-front 0 input) ∙ p)) (other input p)
+      go false b p q = idle 0 (other (take 1 input) (ap (λ (k : ℕ). eqb k 0x30) (kind_front 0 input) ∙ p)) (other input p)
 
   -- so it takes a slot, or none
   pub takes_front : takes t piece ≡ takes t input
@@ -111,18 +111,18 @@ module _ (t : Totals) (input : List ℕ) where
   piece-long = enough.long
 
   -- comes to the same totals
-  pub step_totals-front : step_totals t piece ≡ step_totals t input
+  pub step_totals_front : step_totals t piece ≡ step_totals t input
   unfolding step_totals
-  step_totals-front = rw takes_front (go (takes t input) refl)
+  step_totals_front = rw takes_front (go (takes t input) refl)
     where
       go : (b : Bool) → takes t input ≡ b → cond b (added t (slot_says (slot_of piece))) t ≡ cond b (added t (slot_says (slot_of input))) t
       go true e = rw (enough.slot e)
       go false e = refl
 
   -- and prints the same line
-  pub step_prints-front : step_prints t piece ≡ step_prints t input
+  pub step_prints_front : step_prints t piece ≡ step_prints t input
   unfolding step_prints
-  step_prints-front = rw takes_front (go (takes t input) refl)
+  step_prints_front = rw takes_front (go (takes t input) refl)
     where
       go : (b : Bool) → takes t input ≡ b
           → cond b (slot_line t.sheets (slot_says (slot_of piece))) (last_line (end_first piece) t)

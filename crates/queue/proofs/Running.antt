@@ -17,7 +17,7 @@ use Rattle.queue.specs.Queue.{slot_says, slot_first, slot_of, end_first, Said, s
 use Rattle.queue.specs.Lines.{slot_line, slot_lines, totals_line, last_line, most, printed}
 use Rattle.queue.specs.Steps.{added, takes, step_totals, step_prints, steps_print}
 use Rattle.queue.proofs.Adding.{totals-added}
-use Rattle.queue.proofs.Fronts.{first-long, piece, takes_front, piece-long, step_totals-front, step_prints-front}
+use Rattle.queue.proofs.Fronts.{first-long, piece, takes_front, piece-long, step_totals_front, step_prints_front}
 
 -- ---- what is said, a slot at a time
 
@@ -43,7 +43,7 @@ module _ (more : ℕ) (t : Totals) (input : List ℕ) where
   pub step-whole : steps_print (suc more) t input
       ≡ step_prints t input ++ cond (takes t input) (steps_print more (step_totals t input) (drop (length (piece t input)) input)) []
   unfolding steps_print
-  step-whole = rw (step_prints-front t input, takes_front t input, step_totals-front t input)
+  step-whole = rw (step_prints_front t input, takes_front t input, step_totals_front t input)
 
   -- nothing is taken: the last line
   step_last : takes t input ≡ false → steps_print (suc more) t input ≡ last_line (end_first input) t

@@ -11,7 +11,7 @@ use Rattle.queue.specs.declared.Turned.{Turned}
 use Rattle.queue.specs.Queue.{totals_of}
 use Rattle.queue.specs.Lines.{most, printed}
 use Rattle.queue.specs.Steps.{added, takes, step_totals, step_prints, steps_print, turn_totals, turn_takes, turn_prints, TurnOn, TurnsOn, turns_print}
-use Rattle.queue.proofs.Fronts.{takes_front, piece-long, step_totals-front, step_prints-front}
+use Rattle.queue.proofs.Fronts.{takes_front, piece-long, step_totals_front, step_prints_front}
 use Rattle.queue.proofs.Stepping.{takes_early, takes_adds}
 use Rattle.queue.proofs.Running.{step-whole, steps_print_lem}
 
@@ -25,11 +25,11 @@ module _ (t : Totals) (input : List ℕ) (r : Turned) (on : TurnOn t input r) wh
 
   on_totals : r.totals ≡ step_totals t input
   unfolding turn_totals
-  on_totals = on.turn.totals ∙ ap (step_totals t) on.piece ∙ step_totals-front t input
+  on_totals = on.turn.totals ∙ ap (step_totals t) on.piece ∙ step_totals_front t input
 
   on_prints : handed r.printed ≡ step_prints t input
   unfolding turn_prints
-  on_prints = on.turn.line ∙ ap (step_prints t) on.piece ∙ step_prints-front t input
+  on_prints = on.turn.line ∙ ap (step_prints t) on.piece ∙ step_prints_front t input
 
 -- with so many slots more that may come
 turns_steps : (more : ℕ) (t : Totals) (input : List ℕ) (rs : List Turned) → t.sheets + more ≡ most → TurnsOn t input rs

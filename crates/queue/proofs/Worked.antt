@@ -85,9 +85,9 @@ s2-alone = alone-is s2 16 0 0 (ap (judged_at 4) rows_right)
 -- ---- worked queues
 
 -- S1 and S2, then the end
-pub two-printed : printed (laid (slot_for s1 ∷ slot_for s2 ∷ []))
+pub two_printed : printed (laid (slot_for s1 ∷ slot_for s2 ∷ []))
     ≡ text "0 met 16\n1 unmet 0\nsheets 2 met 1 unmet 1 refused 0 survivors 16\n"
-two-printed =
+two_printed =
     sheets-printed (s1 ∷ s2 ∷ []) (omega arith, (omega arith, tt)) (omega arith)
     ∙ ap₂ (λ (a b : SlotAnswer). lines_of (a ∷ b ∷ [])) s1-alone s2-alone
     ∙ unfold slot_lines slot_line totals_line totals_of sum met_in unmet_in refused_in survivors_in text decimal decimal_in in refl
