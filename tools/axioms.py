@@ -20,14 +20,14 @@ ROOT = Path(__file__).resolve().parent.parent
 PROGRAMS = {
     "evening": {"libc::read", "libc::write", "os::c::rattle_errno"},
     "queue": {"libc::read", "libc::write", "os::c::rattle_errno"},
-    "loads": LOADS_ASSUMES,
+    "loads": {"libc::write", "os::c::rattle_errno"},
 }
 # How often a crate's sources call what reads or writes, or console's; and how often they ask for a stream.
 CALLS = {
     "console": {".read": 1, ".write_all": 2},
     "evening": {"console::read_all": 1, "console::print": 1, ".stdin": 1, ".stdout": 1, ".stderr": 1},
     "queue": {"console::read_all": 1, "console::print": 1, ".stdin": 1, ".stdout": 1, ".stderr": 1},
-    "loads": LOADS_CALLS,
+    "loads": {".write_all": 1, "print!": 2, ".stdout": 1},
 }
 # What neither reads nor writes, or only to standard error.
 QUIET = {"io::decimal", "io::hex", "io::Read", "io::Print", "io::Stdout", "io::Stderr", "console::Input", "console::Printed", "console::complain"}
