@@ -65,6 +65,8 @@ pub fn list_marks(sheet: &[u8], list: &mut [u8]) -> ListAnswer
 }
 
 // The three bytes of one part.
+// A call of its own: of a loop with its body in sight the compiler tests the ranges by a product.
+#[inline(never)]
 fn write_part(slot: &mut [u8], word: u32)
     requires { length slot.old ≡ 3 }
     ensures { slot.new ≡ slot_bytes word }
