@@ -1,0 +1,2 @@
+// Knowledge bases as OWL 2 functional-style syntax: the definitions of specs/, and no code yet.
+#![tactic(auto)]
