@@ -1,11 +1,11 @@
 #!/usr/bin/env python3
 """What the programs take from the system, and where.
 
-usage: axioms.py        runs `rt check` in the folders of the programs and of capi
+usage: axioms.py        runs `rt check` in each crate's folder
 
 The check of a program, or of the static library capi, names the system's functions whose contracts it assumes, in whatever crate below.
 It assumes those that its line below has, no more and no fewer: a program that reads nothing, or writes nothing, has fewer, and the
-library that C calls has none.
+library that C calls has none. Of the other crates only those below stand on the system's functions at all.
 
 What is read and written no contract can say. So the calls are few: a crate's sources call what reads or writes as often as its line
 below says, and no other crate's call any.
@@ -23,6 +23,8 @@ PROGRAMS = {
     "queue": {"libc::read", "libc::write", "os::c::rattle_errno"},
     "loads": {"libc::write", "os::c::rattle_errno"},
 }
+# The other crates that stand on the system's functions.
+LIBRARIES = {"console"}
 # How often a crate's sources call what reads or writes, or console's; and how often they ask for a stream.
 CALLS = {
     "console": {".read": 1, ".write_all": 2},
@@ -38,7 +40,8 @@ TEXT = re.compile(r"""b?"(?:\\.|[^"\\])*"|b'(?:\\.|[^'\\])+'|//[^\n]*""")
 # Functions and modules of the system, of the kit's io and of console; methods and macros that read, write or give a stream.
 NAMED = re.compile(
     r"\b(?:libc|io|os|console|fs|env|process|net|thread|time)::\w+"
-    r"|\.(?:read|write|print|flush|seek)\w*(?=\s*\()|\.(?:stdin|stdout|stderr|reader|lines|args)(?=\s*\()"
+    r"|\b[A-Z]\w*::(?:read|write|print|flush|seek|bytes)\w*(?=\s*\()"
+    r"|\.(?:read|write|print|flush|seek)\w*(?=\s*\()|\.(?:stdin|stdout|stderr|reader|lines|bytes|args)(?=\s*\()"
     r"|\b(?:e?print(?:ln)?|write(?:ln)?)!"
 )
 IMPORTED = re.compile(r"\buse ([\w:]+)::\{([^}]*)\}")
@@ -66,6 +69,12 @@ def assumed(said):
     return names if len(names) == (int(count[1]) if count else 0) else None
 
 
+def stands(said):
+    """Whether a check says that it read what is stated of the system's functions; None where it does not speak of them."""
+    loaded = re.findall(r"^(?:statements|library) (?:libc|os): modules loaded=(\d+) checked=(\d+)$", said, re.M)
+    return any(n != "0" for counts in loaded[-2:] for n in counts) if loaded else None
+
+
 def named(sources):
     """How often source texts call what reads or writes, or console's; names that a `use` brings go by their paths."""
     found = []
@@ -77,7 +86,7 @@ def named(sources):
 
 
 def faults(crate, said, sources):
-    """What is wrong with a crate, given what its check said, where it is a program, and its source texts."""
+    """What is wrong with a crate, given what its check said and its source texts."""
     bad, calls = [], named(sources)
     if crate in PROGRAMS:
         found = assumed(said)
@@ -85,6 +94,8 @@ def faults(crate, said, sources):
             bad.append(f"{crate}: its check has no verdict that can be read")
         elif found != PROGRAMS[crate]:
             bad.append(f"{crate} assumes {sorted(found)}")
+    if not (crate in PROGRAMS and PROGRAMS[crate]) and stands(said) is not (crate in LIBRARIES):
+        bad.append(f"{crate} stands on the system's functions, or does not and should, or its check does not say")
     if calls != CALLS.get(crate, {}):
         bad.append(f"{crate} names {calls}")
     return bad
@@ -96,6 +107,8 @@ BOTH = (
 )
 ONE = BOTH.replace("libc::read, libc::write (2", "libc::write (1").replace("axioms=3", "axioms=2")
 MORE = BOTH.replace("libc::read, libc::write (2", "libc::close, libc::read, libc::write, ... (7").replace("axioms=3", "axioms=8")
+NONE = "statements libc: modules loaded=0 checked=0\nstatements os: modules loaded=0 checked=0\n"
+SOME = NONE.replace("os: modules loaded=0", "os: modules loaded=9")
 CODE = "use console::{Input, print};\nuse std::io::{Read, Stdout};\nfn main(rt: HostRuntime) {\n    console::read_all(&mut rt.stdin());\n    f(rt.stdout(), rt.stderr());\n}\n"
 # A crate, what its check said and source; how many faults.
 CASES = [
@@ -108,19 +121,25 @@ CASES = [
     ("evening", "", CODE, 1),
     ("evening", "logic=proved functions=16 sum=x\n" + BOTH, CODE, 0),
     ("evening", BOTH + "logic=not-proved\n", CODE, 1),
-    ("capi", "axioms std: none reached of the 2 declared\nlogic=proved functions=7 target=x\n", "", 0),
-    ("capi", ONE, "", 1),
+    ("capi", NONE + "axioms std: none reached of the 2 declared\nlogic=proved functions=7 target=x\n", "", 0),
+    ("capi", NONE + ONE, "", 1),
+    ("capi", SOME + "logic=proved functions=7 target=x\n", "", 1),
     ("evening", BOTH, CODE + "// console::print\n", 0),
     ("evening", BOTH, CODE + 'fn f() {\n    console::print(b"io::write_all");\n}\n', 1),
     ("evening", BOTH, CODE + "fn f() {\n    io::write_all(1, b);\n}\n", 1),
     ("evening", BOTH, CODE + 'fn f() {\n    println!(rt; "x")?;\n}\n', 1),
     ("evening", BOTH, CODE.replace("rt.stdin()", "rt.stdout()"), 1),
     ("evening", BOTH, CODE.replace("print}", "complain}"), 1),
-    ("console", "", "from.read(buffer); stdout.write_all(a); stderr.write_all(b);", 0),
-    ("console", "", "from.read(buffer); stdout.write_all(a);", 1),
-    ("report", "", "io::decimal(n, &mut digits)", 0),
-    ("report", "", "use io::write_all;", 1),
-    ("report", "", "use std::fs::File;", 1),
+    ("console", SOME, "from.read(buffer); stdout.write_all(a); stderr.write_all(b);", 0),
+    ("console", SOME, "from.read(buffer); stdout.write_all(a);", 1),
+    ("console", SOME, "from.read(buffer); stdout.write_all(a); stderr.write_all(b); Read::read(from, b);", 1),
+    ("console", NONE, "from.read(buffer); stdout.write_all(a); stderr.write_all(b);", 1),
+    ("report", NONE, "io::decimal(n, &mut digits)", 0),
+    ("report", SOME, "io::decimal(n, &mut digits)", 1),
+    ("report", "", "io::decimal(n, &mut digits)", 1),
+    ("report", NONE, "use io::write_all;", 1),
+    ("report", NONE, "use std::fs::File;", 1),
+    ("report", NONE, "R::read(from, b)", 1),
 ]
 
 
@@ -143,12 +162,14 @@ def main():
     bad = [f"{name} is on a list and is no crate" for name in sorted((PROGRAMS.keys() | CALLS.keys()) - set(crates))]
     for crate in crates:
         sources = [file.read_text() for file in sorted((ROOT / "crates" / crate / "src").glob("**/*.rt"))]
-        bad += faults(crate, check(crate) if crate in PROGRAMS else "", sources)
+        bad += faults(crate, check(crate), sources)
     if bad:
         raise SystemExit("\n".join(["axioms: found", *bad]))
     for name, assumes in PROGRAMS.items():
         print(f"axioms: {name} assumes {', '.join(sorted(assumes)) or 'nothing'} and no other")
-    print(f"axioms: of {len(crates)} crates {', '.join(sorted(CALLS))} alone call what reads or writes")
+    others = len(crates) - sum(map(bool, PROGRAMS.values()))
+    print(f"axioms: of the other {others} crates {', '.join(sorted(LIBRARIES))} alone stands on the system's functions")
+    print(f"axioms: {', '.join(sorted(CALLS))} alone call what reads or writes")
 
 
 if __name__ == "__main__":

@@ -8,7 +8,8 @@ or kept from an earlier one, and the first thing there that the prover told agai
 that a fact does not hold: not that a name is gone, not that a goal under a new name has no answer, and not a limit of the prover. No
 edit is bad.
 
-What this does not see: a proof that no longer fits for another reason than a name, and what is told behind the first.
+What this does not see: a proof that no longer fits for another reason than a name, as where a rewriting finds no place; and what rt does
+not tell, since it passes over names that are missing in proofs/ where anything else is refused too.
 """
 import re
 import sys
@@ -18,6 +19,7 @@ ROOT = Path(__file__).resolve().parent.parent
 
 TRIED = re.compile(r"^rt: must-fail (\w+/[\w.-]+\.edit): (.*)$", re.M)
 RIGHT = re.compile(r"refused, as it must be(?!.{0,2}\()")
+GONE = re.compile(r"is not in scope|has no field|has no `|exports no `|does not define it|was not admitted")
 # What is told where the proof that names what is gone is not told itself, or where a goal has no answer under its new name.
 WEAK = re.compile(r"\bnot checked\b|, which was rejected|`search` (gave up|did not)")
 ENDED = re.compile(r"^rt: ok; .*must-fail edits: (\d+) refused(.*?);", re.M)
@@ -26,7 +28,7 @@ ENDED = re.compile(r"^rt: ok; .*must-fail edits: (\d+) refused(.*?);", re.M)
 def faults(log, edits):
     """What is wrong with a log, for edits by their names CRATE/NAME.edit."""
     said = dict(TRIED.findall(log))
-    right = {edit for edit, why in said.items() if RIGHT.match(why) and not WEAK.search(why)}
+    right = {edit for edit, why in said.items() if RIGHT.match(why) and not GONE.search(why) and not WEAK.search(why)}
     bad = [f"{edit} {said.get(edit, 'has no line: it was not tried')[:300]}" for edit in edits if edit not in right]
     bad += [f"{edit} was tried and is not there" for edit in sorted(set(said) - set(edits))]
     ended = ENDED.search(log)
@@ -41,6 +43,9 @@ NAMES = "rt: must-fail p/a.edit: refused, as it must be (only because a proof fi
 LIMIT = "rt: must-fail p/a.edit: refused, as it must be (only by a limit of the prover, which gave no verdict): x\n"
 PROVED = "rt: must-fail p/a.edit: NOT REFUSED: the crate is still proved with this edit\n"
 BAD = "rt: must-fail p/a.edit: BAD EDIT: an 'old:' text is in src/lib.rt 0 times, and not once\n"
+FIELD = FACT.replace("`omega`: the goal does not follow", "record `p.Lts.Start` has no field `before`")
+SCOPE = "rt: must-fail p/a.edit: refused, as it must be: specs/Bits.antt:15:11: error: `bit`: `eqbb` is not in scope; did you mean `eqb`?\n"
+GOAL = FACT.replace("`omega`: the goal does not follow", "module `p.Tie` has no `Need-returns` that can be named from here")
 LOST = FACT.replace("`omega`: the goal does not follow", "1 declaration that depends on `f`, which was rejected, was not checked")
 OPEN = FACT.replace("error: `returns`: `omega`: the goal does not follow", "it is not proved that it holds (`returns-2`); `search` gave up")
 OTHER = FACT.replace("a.edit", "b.edit")
@@ -53,6 +58,9 @@ LOGS = [
     (END, 1),
     ("", 2),
     (NAMES + END, 1),
+    (FIELD + END, 1),
+    (SCOPE + END, 1),
+    (GOAL + END, 1),
     (LOST + END, 1),
     (OPEN + END, 1),
     (LIMIT + END.replace("refused;", "refused, 1 of them only by a limit;"), 2),

@@ -1,10 +1,8 @@
 // Reads a text form by form and writes its records: each call reads what the definition of the same name reads (specs/Grammar.antt),
 // and a record is written once its operands are. Calls nest at most 255 deep, since each form counts as a record when it begins.
-ghost use Rattle.std.specs.Prelude.{◌≡◌, ℕ, ◌+◌, ◌-◌, ◌<◌, ◌≤◌, List, [], ◌∷◌, ◌++◌, length, drop, set};
-ghost use Rattle.owl_import.specs.Grammar.{wrong_no, opening as opening_of, closing as closing_of};
-ghost use Rattle.syntax.specs.Laid.{Rec, rec};
-ghost use Rattle.owl_import.specs.RecordsOf.{last_of, put_role, put_concept, put_axioms};
-ghost use Rattle.owl_import.specs.Steps.{Sane, Moves, Stored, Ran, Same, Grows, Adds, FormEnded, RoleRead, ConceptRead, AxiomRead, AxiomsRead, refused_by, begun_by, moved_to, put_by, code_of, number_of, wrong_code};
+ghost use Rattle.std.specs.Prelude.{◌≡◌, ◌+◌, ◌-◌, ◌<◌, ◌≤◌, length, drop, set};
+ghost use Rattle.owl_import.specs.Grammar.{opening as opening_of, closing as closing_of};
+ghost use Rattle.owl_import.specs.Steps.{Sane, Moves, Ran, Same, FormEnded, RoleRead, ConceptRead, AxiomRead, AxiomsRead, refused_by, begun_by, moved_to, put_by, code_of, number_of, wrong_code};
 
 use owl_words::{Word, next_token};
 

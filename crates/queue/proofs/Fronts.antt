@@ -1,6 +1,6 @@
 -- What a step reads of the input is enough: it takes, adds and prints what it would with all of it.
 use Prim.Native.Nat.{ℕ, suc, ◌≤◌}
-use mathlib.Core.Path.{◌≡◌, refl, sym, ap, ◌∙◌}
+use mathlib.Core.Path.{◌≡◌, refl, sym, ap, subst, ◌∙◌}
 use mathlib.Core.Bool.{Bool, true, false, true≢false, and-eq-true_iff, and-false, ◌&&◌, cond}
 use mathlib.Core.List.{List, [], ◌∷◌}
 use native.Mathlib.Omega.{arith}
@@ -89,7 +89,10 @@ module _ (t : Totals) (input : List ℕ) where
   -- what a step reads is enough
   enough : Enough piece
   unfolding wanted
-  enough = go (eqb (kind_of input) 0x30) (ltb t.sheets most) refl refl
+  enough =
+      let whole : wanted 0 0x30 ≡ 768 = refl in
+      subst (λ (n : ℕ). Enough (take (cond (eqb (kind_of input) 0x30 && ltb t.sheets most) n 1) input)) (sym whole)
+      (go (eqb (kind_of input) 0x30) (ltb t.sheets most) refl refl)
     where
       go : (a b : Bool) → eqb (kind_of input) 0x30 ≡ a → ltb t.sheets most ≡ b → Enough (take (cond (a && b) 768 1) input)
       go true true p q =
