@@ -15,7 +15,7 @@ from pathlib import Path
 ROOT = Path(__file__).resolve().parent.parent
 
 PRODUCT = {"tbox", "domino", "capi", "owl_import"}
-LAYER = {"bitset", "records", "flattening", "domino_conditions", "domino_initial", "domino_settling", "report", "console", "output", "owl_words"}
+LAYER = {"refusals", "bitset", "records", "flattening", "domino_conditions", "domino_initial", "domino_settling", "report", "console", "output", "owl_words"}
 # Public functions without an ensures, and why.
 WITHOUT_ENSURES = {
     "console::complain": "it answers nothing and leaves nothing: what the system takes is not in the kit's contract of write",

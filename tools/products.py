@@ -24,7 +24,7 @@ ONES = 0x0101010101010101
 
 GHOST = re.compile(r"//[^\n]*|ghost use [^;]*;", re.S)
 CLAUSE = re.compile(r"\b(?:requires|ensures|ghost)\*?\s*(?:\w+\s*:?\s*)?\{")
-TOKEN = re.compile(r"\d\w*|\w+|<<|>>|&&|\|\||[=!<>]=|->|=>|::|\S")
+TOKEN = re.compile(r"\d\w*|\w+|<<|>>|&&|\|\||[=!<>]=|->|=>|::|\.\.=?|\S")
 LITERAL = re.compile(r"(0x[0-9a-f_]+|[\d_]+)(?:_?[ui](?:8|16|32|64|size))?")
 NUMBERS = {"u8", "u16", "u32", "u64", "usize", "i8", "i16", "i32", "i64", "isize"}
 NAMED = re.compile(r"(\w+_)?(mul|div|rem|pow)(_\w+)?")

@@ -10,7 +10,7 @@ abbrev pub result_out : List ℕ → ℕ
 result_out says = get_or says 0 0
 
 -- the place afterwards: written on a refusal, else as it was before
-unfoldable pub place_out : List ℕ → ℕ → ℕ
+abbrev pub place_out : List ℕ → ℕ → ℕ
 place_out [] before = before
 place_out (n ∷ []) before = before
 place_out (n ∷ p ∷ []) before = p

@@ -1,14 +1,25 @@
 // The functions for C and Rust: numbers and slices only, each a thin call. Each answers the refusal's number, 0 for done; a
-// refusal writes its place, a call that is done its values.
+// refusal writes its place, a call that is done its values. Place, words and values are parameters of each call, and open, settle
+// and judge are written out, since the C header fixes every name and parameter.
 #![tactic(auto)]
 
 ghost use Rattle.std.specs.Prelude.{◌≡◌, get_or};
-ghost use Rattle.domino.specs.Answers.{verdict_numbers};
+ghost use Rattle.refusals.specs.Numbers.{refusal_numbers};
+ghost use Rattle.domino.specs.Answers.{verdict_is, verdict_numbers};
 ghost use Rattle.capi.specs.Out.{result_out, place_out, value_out};
 ghost use Rattle.capi.specs.Out.{read_said, list_said, list_left, open_said, open_left, strike_said, strike_left, settle_said, settle_left, judge_said, judge_left};
 
-use domino::{JudgeAnswer, OpenAnswer, SettleAnswer, StrikeAnswer, Verdict};
-use tbox::{ListAnswer, ReadAnswer};
+use domino::Verdict;
+use refusals::Refusal;
+
+// A refusal: its number is returned, and its place written.
+fn refuse(refusal: Refusal, place: &mut u64) -> u64
+    ensures value { result ≡ result_out (refusal_numbers refusal) }
+    ensures place_after { place.new ≡ place_out (refusal_numbers refusal) place.old }
+{
+    *place = refusal.place as u64;
+    u64::from(refusal.reason.number())
+}
 
 // Read: T, L and c.
 #[unsafe(no_mangle)]
@@ -25,16 +36,12 @@ pub extern "C" fn lodhrussi_read(
     ensures links_after { links.new ≡ value_out 1 (read_said sheet.now) links.old }
     ensures marks_after { marks.new ≡ value_out 2 (read_said sheet.now) marks.old }
 {
-    let a = tbox::read(sheet);
-    match a {
-        ReadAnswer::Refused(n, p) => {
-            *place = p as u64;
-            n as u64
-        }
-        ReadAnswer::Read(t, l, c) => {
-            *traits = t as u64;
-            *links = l as u64;
-            *marks = c as u64;
+    match tbox::read(sheet) {
+        Err(refusal) => refuse(refusal, place),
+        Ok(counts) => {
+            *traits = counts.names as u64;
+            *links = counts.roles as u64;
+            *marks = counts.parts as u64;
             0
         }
     }
@@ -47,13 +54,9 @@ pub extern "C" fn lodhrussi_list_marks(sheet: &[u8], list: &mut [u8], place: &mu
     ensures place_after { place.new ≡ place_out (list_said sheet.now list.old) place.old }
     ensures list_after { list.new ≡ list_left sheet.now list.old }
 {
-    let a = tbox::list_marks(sheet, list);
-    match a {
-        ListAnswer::Refused(n, p) => {
-            *place = p as u64;
-            n as u64
-        }
-        ListAnswer::Listed(_) => 0,
+    match tbox::list_marks(sheet, list) {
+        Err(refusal) => refuse(refusal, place),
+        Ok(_) => 0,
     }
 }
 
@@ -70,35 +73,27 @@ pub extern "C" fn lodhrussi_open(
     ensures size_after { size.new ≡ value_out 0 (open_said sheet.now set.old) size.old }
     ensures set_after { set.new ≡ open_left sheet.now set.old }
 {
-    let a = domino::open(sheet, set);
-    match a {
-        OpenAnswer::Refused(n, p) => {
-            *place = p as u64;
-            n as u64
-        }
-        OpenAnswer::Opened(s) => {
-            *size = s;
+    match domino::open(sheet, set) {
+        Err(refusal) => refuse(refusal, place),
+        Ok(initial) => {
+            *size = initial;
             0
         }
     }
 }
 
 // A verdict's number, 0 Absent, 1 Struck, 2 Kept; and, when struck, the condition.
-fn put_verdict(v: Verdict, verdict: &mut u64, condition: &mut u64)
-    ensures verdict_after { verdict.new ≡ get_or (verdict_numbers v) 0 verdict.old }
-    ensures condition_after { condition.new ≡ get_or (verdict_numbers v) 1 condition.old }
+fn put_verdict(found: Verdict, verdict: &mut u64, condition: &mut u64)
+    ensures verdict_after { verdict.new ≡ get_or (verdict_numbers (verdict_is found)) 0 verdict.old }
+    ensures condition_after { condition.new ≡ get_or (verdict_numbers (verdict_is found)) 1 condition.old }
 {
-    match v {
-        Verdict::Absent => {
-            *verdict = 0;
-        }
-        Verdict::Struck(k) => {
+    match found {
+        Verdict::Absent => *verdict = 0,
+        Verdict::Struck(failed) => {
             *verdict = 1;
-            *condition = k as u64;
+            *condition = u64::from(failed.number());
         }
-        Verdict::Kept => {
-            *verdict = 2;
-        }
+        Verdict::Kept => *verdict = 2,
     }
 }
 
@@ -118,15 +113,10 @@ pub extern "C" fn lodhrussi_strike(
     ensures condition_after { condition.new ≡ value_out 2 (strike_said sheet.now number set.old) condition.old }
     ensures set_after { set.new ≡ strike_left sheet.now number set.old }
 {
-    let a = domino::strike(sheet, set, number as usize);
-    match a {
-        StrikeAnswer::Refused(n, p) => {
-            *place = p as u64;
-            n as u64
-        }
-        StrikeAnswer::Tried(o) => {
-            let v = o.verdict;
-            put_verdict(v, verdict, condition);
+    match domino::strike(sheet, set, number as usize) {
+        Err(refusal) => refuse(refusal, place),
+        Ok(outcome) => {
+            put_verdict(outcome.verdict, verdict, condition);
             0
         }
     }
@@ -145,13 +135,9 @@ pub extern "C" fn lodhrussi_settle(
     ensures survivors_after { survivors.new ≡ value_out 0 (settle_said sheet.now set.old) survivors.old }
     ensures set_after { set.new ≡ settle_left sheet.now set.old }
 {
-    let a = domino::settle(sheet, set);
-    match a {
-        SettleAnswer::Refused(n, p) => {
-            *place = p as u64;
-            n as u64
-        }
-        SettleAnswer::Settled(left) => {
+    match domino::settle(sheet, set) {
+        Err(refusal) => refuse(refusal, place),
+        Ok(left) => {
             *survivors = left;
             0
         }
@@ -175,16 +161,12 @@ pub extern "C" fn lodhrussi_judge(
     ensures met_after { met.new ≡ value_out 2 (judge_said sheet.now set.old) met.old }
     ensures set_after { set.new ≡ judge_left sheet.now set.old }
 {
-    let a = domino::judge(sheet, set);
-    match a {
-        JudgeAnswer::Refused(n, p) => {
-            *place = p as u64;
-            n as u64
-        }
-        JudgeAnswer::Judged(o, s, b) => {
-            *opening = o;
-            *survivors = s;
-            *met = b as u64;
+    match domino::judge(sheet, set) {
+        Err(refusal) => refuse(refusal, place),
+        Ok(judgement) => {
+            *opening = judgement.opening;
+            *survivors = judgement.survivors;
+            *met = u64::from(judgement.is_met());
             0
         }
     }

@@ -1,98 +1,49 @@
 // Standard input, output and error, for the programs.
 #![tactic(auto)]
 
-ghost use Rattle.std.specs.Prelude.{◌≤◌, ◌≡◌, take};
-ghost use Rattle.console.specs.Input.{Within, next_read_lem};
+ghost use Rattle.std.specs.Prelude.{◌≡◌, ◌<◌, length, take, IfOk};
+ghost use Rattle.std.specs.Io.{ReadsAtMost};
+ghost use Rattle.std.specs.Io.KnownBytes.{Consumes, IsAtEnd};
 ghost use Rattle.console.specs.Output.{handed};
 
+use arrayvec::ArrayVec;
+use std::io;
 use std::io::{Print, Read, Stderr, Stdout};
-
-#[derive(Clone, Copy)]
-pub enum Input {
-    // A read failed.
-    Failed,
-    // How many bytes were read.
-    Got(usize),
-}
-
-// What follows a read.
-#[derive(Clone, Copy)]
-enum Next {
-    Failed,
-    // No more is read: how many bytes were.
-    Ended(usize),
-    // More is read behind so many bytes.
-    Again(usize),
-}
 
 // What was handed to standard output: only `print` makes one.
 #[derive(Drop)]
-pub struct Printed {
-    text: [u8; 160],
-    count: usize,
+pub struct Printed<const N: usize> {
+    text: ArrayVec<u8, N>,
     // Did the system take all of it?
     pub whole: bool,
 }
 
-// One read into the buffer. What the system's read brings no contract can say; held by process tests alone.
-fn read_some<R: Read>(from: &mut R, buffer: &mut [u8]) -> Input
-    ensures { Within result buffer.new }
+// Reads until the buffer is full, the input ends or a read fails, whatever each read brings. Of a reader whose bytes are known the
+// contract says which are read. Which bytes standard input brings, and that a failure is a read's, no contract can say; held by
+// process tests alone.
+pub fn read_all<R: Read>(from: &mut R, buffer: &mut [u8]) -> io::Result<usize>
+    ensures bound { ReadsAtMost result buffer.new }
+    ensures bytes { IfOk result (λ n. Consumes (R.remaining from.old) (R.remaining from.new) (take n buffer.new)) }
+    ensures end { IfOk result (λ n. n < length buffer.new → IsAtEnd (R.remaining from.new)) }
 {
-    match from.read(buffer) {
-        Ok(n) => Input::Got(n),
-        Err(_) => Input::Failed,
-    }
-}
-
-// What follows a read behind the bytes that are done, in a buffer of this length.
-fn next_read(done: usize, some: Input, room: usize) -> Next
-    requires { done ≤ room }
-    ensures { result ≡ next_read_lem done some room }
-{
-    match some {
-        Input::Failed => Next::Failed,
-        Input::Got(n) => {
-            if n == 0 {
-                return Next::Ended(done);
-            }
-            if n < room - done {
-                return Next::Again(done + n);
-            }
-            Next::Ended(room)
-        }
-    }
-}
-
-// Reads until the buffer is full, the input ends or a read fails, whatever each read brings. That each answer comes from reads no
-// contract can say, since what they brought is in none; held by process tests alone.
-pub fn read_all<R: Read>(from: &mut R, buffer: &mut [u8]) -> Input
-    ensures { Within result buffer.new }
-{
-    let mut done: usize = 0;
+    let mut done = 0;
+    // A `while`: each read says how far it went, so no iterator knows the parts of the buffer beforehand.
     while done < buffer.len() {
-        let some = read_some(from, &mut buffer[done..]);
-        let next = next_read(done, some, buffer.len());
-        match next {
-            Next::Failed => return Input::Failed,
-            Next::Ended(n) => return Input::Got(n),
-            Next::Again(n) => done = n,
+        let n = from.read(&mut buffer[done..])?;
+        if n == 0 {
+            return Ok(done);
         }
+        done += n;
     }
-    Input::Got(done)
+    Ok(done)
 }
 
-// Writes the first bytes of a text to standard output. What the system's write takes no contract can say; held by process tests
-// alone.
-pub fn print(stdout: &Stdout, text: [u8; 160], count: usize) -> Printed
-    requires { count ≤ 160 }
-    ensures { handed result ≡ take count text }
+// Writes a text to standard output. What the system's write takes no contract can say; held by process tests alone.
+pub fn print<const N: usize>(stdout: &Stdout, text: ArrayVec<u8, N>) -> Printed<N>
+    ensures { handed result ≡ text.entry.items }
 {
-    let whole = stdout.write_all(&text[..count]).is_ok();
-    Printed {
-        text: text,
-        count: count,
-        whole: whole,
-    }
+    let whole = stdout.write_all(&text).is_ok();
+    Printed { text, whole }
 }
 
 // Writes a text to standard error; there is nobody to tell if that fails.

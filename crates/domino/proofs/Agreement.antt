@@ -6,8 +6,7 @@ use mathlib.Core.Path.{◌≡◌, refl, sym as flip, ap, ap₂, subst, ◌∙◌
 use mathlib.Core.Bool.{Bool, true, false, not, ◌&&◌, ◌||◌, cond}
 use mathlib.Core.List.{List}
 use lib.Dec.{eqb, ltb}
-use lib.ListN.{length}
-use borrow.Author.Tests.{lt-ltb, ltb-true, eqb-true}
+use borrow.Author.Tests.{ltb-true, eqb-true}
 use Rattle.bitset.specs.Bits.{Set, bit, look, cleared}
 use Rattle.bitset.proofs.Facts.{T_of}
 use Rattle.bitset.proofs.Laws.{bit_word_at}
@@ -19,22 +18,20 @@ use Rattle.elimination.proofs.Settling.{same_by, stable-at, stable-by, settled-s
 use Rattle.elimination.proofs.Written.{written_same}
 use Rattle.elimination.proofs.Quantifiers.{all_same, any_same}
 use Rattle.syntax.specs.Flatten.{everything, nothing, name_a, Filler, atomic, fresh, Part, name_p, fresh_p, exists_p, forall_p, part_at}
-use Rattle.syntax.specs.Bounds.{FillerLow, PartLow}
 use Rattle.syntax.specs.Truth.{kb_on}
-use Rattle.syntax.specs.Parts.{kind_of, filler_no, filler_of, role_holds}
-use Rattle.tbox.specs.Promise.{Flattened}
-use Rattle.syntax.specs.Reading.{Kb, kb as kb_r, flats_of, parts_of, read_kb}
-use Rattle.syntax.specs.Answers.{limit}
+use Rattle.syntax.specs.Parts.{kind_of, role_holds}
+use Rattle.tbox.specs.Promise.{filler_is, kind_is, kind_number, Flattened}
+use Rattle.tbox.specs.declared.base.Kind.{Kind}
+use Rattle.syntax.specs.Reading.{Kb, flats_of, parts_of}
 use Rattle.tbox.specs.declared.base.Base.{Base}
-use Rattle.syntax.proofs.Promised.{kb-few, kb-fillers}
 use Rattle.semantics.specs.Dominoes.{Dominoes, left_of, roles_of, right_of_lem, numbered}
 use Rattle.semantics.specs.Conditions.{View, kb, ex, uni, witness, delex, deluni, sym, initially, dominoes, initial, defective, defect_at, canon}
 use Rattle.semantics.specs.Views.{filler_in, has_filler, kb_view}
 use Rattle.semantics.proofs.Numbers.{domino_of}
 use Rattle.semantics.proofs.Defects.{defect_cases, defective-is, defective_monotone}
-use Rattle.domino.specs.declared.Outcome.{Outcome}
+use Rattle.domino.specs.declared.Verdict.{Verdict}
 use Rattle.domino_settling.specs.declared.judging.Judgement.{Judgement}
-use Rattle.domino_conditions.specs.Tables.{filler_in_label_lem, view, Sized}
+use Rattle.domino_conditions.specs.Tables.{filler_in_label_lem, kind_has, view}
 use Rattle.domino.specs.Answers.{verdict_of}
 use Rattle.domino.specs.OwnSteps.{StrikesSet}
 use Rattle.domino_initial.specs.Opening.{OpensSet}
@@ -200,10 +197,10 @@ module _ (v w : View) (a : Agree v w) where
   pub opens_agree : {ws vs : List ℕ} {r : ℕ} → OpensSet v ws vs r → OpensSet w ws vs r
   opens_agree {ws} {vs} {r} o = subst (λ (x : View). OpensSet x ws vs r) u_is (opens_u ws vs r o)
 
-  pub strikes_agree : {ws vs : List ℕ} {n : ℕ} {r : Outcome} → n < dominoes v → StrikesSet v n ws vs r → StrikesSet w n ws vs r
+  pub strikes_agree : {ws vs : List ℕ} {n : ℕ} {r : Verdict} → n < dominoes v → StrikesSet v n ws vs r → StrikesSet w n ws vs r
   strikes_agree {ws} {vs} {n} {r} h o =
       subst (λ (x : View). StrikesSet x n ws vs r) u_is
-      (record { number = o.number; verdict = o.verdict ∙ verdict_same (look ws) n h; set = o.set ∙ strike_same n ws })
+      (record { verdict = o.verdict ∙ verdict_same (look ws) n h; set = o.set ∙ strike_same n ws })
 
   pub settles_agree : {ws vs : List ℕ} {r : ℕ} → SettlesSet v ws vs r → SettlesSet w ws vs r
   settles_agree {ws} {vs} {r} o = subst (λ (x : View). SettlesSet x ws vs r) u_is (settles_u ws vs r o)
@@ -213,40 +210,40 @@ module _ (v w : View) (a : Agree v w) where
 
 -- ---- the tables of a loaded knowledge base
 
-filler-has : (c : ℕ) → c ≤ 12 → (f : Filler) → FillerLow c f → (B : ℕ) → filler_in_label_lem (filler_no f) B ≡ filler_in f (bit B)
-unfolding filler_in_label_lem filler_no filler_in
-filler-has c h (atomic everything) l B = refl
-filler-has c h (atomic nothing) l B = refl
-filler-has c h (atomic (name_a t)) l B = rw (lt-ltb t 64 (omega arith))
-filler-has c h (fresh j) l B = rw (lt-ltb j 64 (omega arith))
+filler_has : (f : Filler) (B : ℕ) → filler_in_label_lem (filler_is f) B ≡ filler_in f (bit B)
+unfolding filler_in_label_lem filler_in
+filler_has (atomic everything) B = refl
+filler_has (atomic nothing) B = refl
+filler_has (atomic (name_a t)) B = refl
+filler_has (fresh j) B = refl
 
-part_has : (c : ℕ) → c ≤ 12 → (p : Part) → PartLow c p → 2 ≤ kind_of p → (B : ℕ) → filler_in_label_lem (filler_of p) B ≡ has_filler p B
-unfolding kind_of filler_of has_filler
-part_has c h (name_p t) l k B = absurd (omega arith)
-part_has c h (fresh_p g d) l k B = absurd (omega arith)
-part_has c h (exists_p g u f) l k B = filler-has c h f l B
-part_has c h (forall_p g u f) l k B = filler-has c h f l B
+part_has : (p : Part) (B : ℕ) → kind_has (kind_is p) B ≡ has_filler p B
+unfolding kind_has has_filler
+part_has (name_p t) B = refl
+part_has (fresh_p g d) B = refl
+part_has (exists_p g u f) B = filler_has f B
+part_has (forall_p g u f) B = filler_has f B
 
-module _ (sheet : List ℕ) {k : Kb} (e : read_kb limit sheet ≡ kb_r k) (b : Base) (f : Flattened k b) where
-  pub base_sized : Sized b.parts
-  base_sized = record { within = f.small; few = omega (arith, f.roles, kb-few limit sheet e) }
+part_kind : (p : Part) → kind_number (kind_is p) ≡ kind_of p
+unfolding kind_number kind_of
+part_kind (name_p t) = refl
+part_kind (fresh_p g d) = refl
+part_kind (exists_p g u f) = refl
+part_kind (forall_p g u f) = refl
 
-  pub base_agrees : Agree (view b.parts b.role b.good) (kb_view k)
-  base_agrees = record {
-    parts = f.count;
-    roles = f.roles;
-    kind = f.kind;
-    holds = λ i R h l.
-        let r = few_sets b.parts.roles R base_sized.few l in
-        ap (λ (x : ℕ). bit x (R % 64)) (f.role i (R / 64) h (omega arith))
-        ∙ bit_word_at (role_holds (part_at (parts_of k) i)) (R / 64) (R % 64) (omega arith)
-        ∙ ap (role_holds (part_at (parts_of k) i)) (omega arith);
-    has = λ i B h l.
-        ap (λ (x : ℕ). filler_in_label_lem x B) (f.filler i h)
-        ∙ part_has (length (parts_of k)) (omega (arith, f.small, f.count)) (part_at (parts_of k) i) (kb-fillers limit sheet e i)
-        (omega (arith, f.kind i h)) B;
-    good = λ A h.
-        ap (λ (x : ℕ). bit x (A % 64)) (f.good (A / 64) (omega arith))
-        ∙ bit_word_at (kb_on (flats_of k)) (A / 64) (A % 64) (omega arith)
-        ∙ ap (kb_on (flats_of k)) (omega arith);
-  }
+pub base_agrees : (k : Kb) (b : Base) → Flattened k b → Agree (view b) (kb_view k)
+base_agrees k b f = record {
+  parts = f.count;
+  roles = f.roles;
+  kind = λ i h. ap kind_number (f.kind i h) ∙ part_kind (part_at (parts_of k) i);
+  holds = λ i R h l.
+      let r = few_sets b.size.roles R b.few l in
+      ap (λ (x : ℕ). bit x (R % 64)) (f.role i (R / 64) h (omega arith))
+      ∙ bit_word_at (role_holds (part_at (parts_of k) i)) (R / 64) (R % 64) (omega arith)
+      ∙ ap (role_holds (part_at (parts_of k) i)) (omega arith);
+  has = λ i B h l. ap (λ (x : Kind). kind_has x B) (f.kind i h) ∙ part_has (part_at (parts_of k) i) B;
+  good = λ A h.
+      ap (λ (x : ℕ). bit x (A % 64)) (f.good (A / 64) (omega arith))
+      ∙ bit_word_at (kb_on (flats_of k)) (A / 64) (A % 64) (omega arith)
+      ∙ ap (kb_on (flats_of k)) (omega arith);
+}

@@ -19,9 +19,12 @@ use Rattle.semantics.specs.Views.{kb_view}
 use Rattle.semantics.proofs.Numbers.{number_lt}
 use Rattle.semantics.proofs.Canonical.{canon-largest}
 use Rattle.semantics.proofs.Verdict.{sheet-verdict, model_dominoes}
-use Rattle.domino.specs.declared.JudgeAnswer.{JudgeAnswer}
-use Rattle.domino.specs.declared.JudgeAnswer.TheVariants.{Refused, Judged}
-use Rattle.domino.specs.Answers.{is_set_refusal, on_set, judge_numbers, judge_says, judge_leaves, Judges}
+use Rattle.std.specs.Prelude.{Result, Ok, Err}
+use Rattle.refusals.specs.Numbers.{number as number_of}
+use Rattle.refusals.specs.declared.Refusal.{Refusal}
+use Rattle.domino_settling.specs.declared.judging.Judgement.{Judgement}
+use Rattle.domino_settling.specs.Settling.{met}
+use Rattle.domino.specs.Answers.{is_set_refusal, on_set, judge_says, judge_leaves, Judges}
 use Rattle.domino.specs.Decides.{RefusedRightly, DecidedRightly, Decides}
 use Rattle.domino.proofs.OnSet.{on_why, on_cases, says-refusal, leaves-refusal}
 use Rattle.elimination.proofs.Written.{written-past}
@@ -54,18 +57,17 @@ module _ (sheet before : List ℕ) (n p : ℕ) (e : on_set refusal kb (read_kb l
   unfolding judge_leaves
   judge_leaves_so = leaves-refusal _ before (read_kb limit sheet) n p e
 
-  from-refusal : (after : List ℕ) (r : JudgeAnswer) → Judges (read_kb limit sheet) before after r → Decides sheet before after r
-  unfolding judge_numbers
-  from-refusal after (Refused m q) j =
-      let a : n ∷ p ∷ [] ≡ m ∷ q ∷ [] = flip (j.answer ∙ judge_says_so) in
-      let i : n ≡ m = cc in
-      let u : p ≡ q = cc in
+  from-refusal : (after : List ℕ) (r : Result Judgement Refusal) → Judges (read_kb limit sheet) before after r → Decides sheet before after r
+  from-refusal after (Err r) j =
+      let a : n ∷ p ∷ [] ≡ number_of r.reason ∷ r.place ∷ [] = flip (j.answer ∙ judge_says_so) in
+      let i : n ≡ number_of r.reason = cc in
+      let u : p ≡ r.place = cc in
       let s : before ≡ after = flip (j.set ∙ judge_leaves_so) in
       same i u s refused_rightly
     where
       same : {m q : ℕ} {us : List ℕ} → n ≡ m → p ≡ q → before ≡ us → RefusedRightly sheet before before n p → RefusedRightly sheet before us m q
       same i u s h = rw (← i, ← u, ← s) h
-  from-refusal after (Judged o s m) j = unequal (n ∷ p ∷ []) _ (flip (j.answer ∙ judge_says_so)) (omega arith)
+  from-refusal after (Ok x) j = unequal (n ∷ p ∷ []) _ (flip (j.answer ∙ judge_says_so)) (omega arith)
 
 -- ---- an answer
 
@@ -81,9 +83,17 @@ module _ (sheet before : List ℕ) (k : Kb) (e : read_kb limit sheet ≡ kb k) (
   says : judge_says (read_kb limit sheet) before ≡ judge_says (kb k) before
   says = ap (λ (s : Reading). judge_says s before) e
 
-  module _ (o n : ℕ) (m : Bool) (after : List ℕ) (j : Judges (read_kb limit sheet) before after (Judged o n m)) where
+  module _ (x : Judgement) (after : List ℕ) (j : Judges (read_kb limit sheet) before after (Ok x)) where
+    abbrev o : ℕ
+    o = x.opening
+
+    abbrev n : ℕ
+    n = x.survivors
+
+    abbrev m : Bool
+    m = met x
+
     answers : judge_says (kb k) before ≡ 0 ∷ 0 ∷ o ∷ n ∷ cond m 1 0 ∷ []
-    unfolding judge_numbers
     answers = flip (j.answer ∙ says)
 
     leaves : after ≡ judge_leaves (kb k) before
@@ -120,13 +130,12 @@ module _ (sheet before : List ℕ) (k : Kb) (e : read_kb limit sheet ≡ kb k) (
           survivor_count = w.1;
         }
 
-  from-read : (after : List ℕ) (r : JudgeAnswer) → Judges (read_kb limit sheet) before after r → Decides sheet before after r
-  unfolding judge_numbers
-  from-read after (Refused m q) j = unequal (m ∷ q ∷ []) _ (j.answer ∙ says ∙ judge_says_lem k before h) (omega arith)
-  from-read after (Judged o n m) j = (k, e, decided_rightly o n m after j)
+  from-read : (after : List ℕ) (r : Result Judgement Refusal) → Judges (read_kb limit sheet) before after r → Decides sheet before after r
+  from-read after (Err r) j = unequal (number_of r.reason ∷ r.place ∷ []) _ (j.answer ∙ says ∙ judge_says_lem k before h) (omega arith)
+  from-read after (Ok x) j = (k, e, decided_rightly x after j)
 
 -- for any bytes and words, and any answer and words that meet the contract of judge
-pub decides : (sheet before after : List ℕ) (r : JudgeAnswer) → Judges (read_kb limit sheet) before after r → Decides sheet before after r
+pub decides : (sheet before after : List ℕ) (r : Result Judgement Refusal) → Judges (read_kb limit sheet) before after r → Decides sheet before after r
 decides sheet before after r j =
     ⊎_elim (λ f. from-refusal sheet before f.0 f.1 f.2 after r j) (λ f. from-read sheet before f.0 f.1 f.2 after r j)
     (on_cases (read_kb limit sheet) (length before))

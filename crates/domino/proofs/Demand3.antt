@@ -23,7 +23,7 @@ use Rattle.syntax.specs.Answers.{limit}
 use Rattle.semantics.specs.Conditions.{View, dominoes, initial, lacks, defective, defect_at, canon, held}
 use Rattle.semantics.specs.Views.{kb_view}
 use Rattle.semantics.proofs.Defects.{lacks_monotone, defective-is, defective_monotone, defect-at_same}
-use Rattle.domino.specs.declared.Verdict.{Verdict}
+use Rattle.domino.specs.Answers.{Verdict}
 use Rattle.domino.specs.Answers.{verdict_numbers, verdict_of, open_leaves, strike_says, strike_leaves, settle_leaves}
 use Rattle.domino.specs.Demanded.{StableWords, called, calls_leave, Demand3, Demand3Calls, SpareIgnored}
 use Rattle.domino.proofs.WordsEnough.{open_says_lem, open_leaves_lem, strike-says, strike-beyond, strike-leaves, settle-says, settle-leaves, judge_leaves_lem, ones-left, stable-words, words-stable}

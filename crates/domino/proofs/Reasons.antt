@@ -20,7 +20,7 @@ use Rattle.syntax.specs.Answers.{limit}
 use Rattle.semantics.specs.Conditions.{View, order, FirstFails, dominoes, initial, lacks, defective, condition, condition_at, defect_at, held}
 use Rattle.semantics.specs.Views.{kb_view}
 use Rattle.semantics.proofs.Defects.{defect_le, defect-first, first-defect, defect_passes, passes_defect, defect-later, defective-is, lacks_monotone}
-use Rattle.domino.specs.declared.Verdict.TheVariants.{Absent, Struck, Kept}
+use Rattle.domino.specs.Answers.{Absent, Struck, Kept}
 use Rattle.domino.specs.Answers.{verdict_numbers, verdict_of, open_leaves, strike_says}
 use Rattle.domino.specs.Demanded.{StableWords, calls_leave}
 use Rattle.domino.specs.Reasons.{absent, struck, kept, Tells, fails_some, AsBefore, Resting}
@@ -37,19 +37,16 @@ abbrev verdict_in : List ℕ → ℕ
 verdict_in says = get_or says 3 0
 
 struck-answer : (n k : ℕ) (there none : Bool) (d : ℕ) → answer n there none d ≡ struck k n → (there ≡ true) × (none ≡ false) × (d ≡ k)
-unfolding verdict_numbers
 struck-answer n k false none d e = absurd (omega (arith, ap verdict_in e))
 struck-answer n k true true d e = absurd (omega (arith, ap verdict_in e))
 struck-answer n k true false d e = (refl, refl, ap (λ (says : List ℕ). get_or says 4 0) e)
 
 absent-answer : (n : ℕ) (there none : Bool) (d : ℕ) → answer n there none d ≡ absent n → there ≡ false
-unfolding verdict_numbers
 absent-answer n false none d e = refl
 absent-answer n true true d e = absurd (omega (arith, ap verdict_in e))
 absent-answer n true false d e = absurd (omega (arith, ap verdict_in e))
 
 kept-answer : (n : ℕ) (there none : Bool) (d : ℕ) → answer n there none d ≡ kept n → (there ≡ true) × (none ≡ true)
-unfolding verdict_numbers
 kept-answer n false none d e = absurd (omega (arith, ap verdict_in e))
 kept-answer n true true d e = (refl, refl)
 kept-answer n true false d e = absurd (omega (arith, ap verdict_in e))
@@ -102,13 +99,11 @@ module _ (k : Kb) (ws : List ℕ) (h : held (kb_view k) ≤ length ws) where
   -- in the set, and with a defect
   says-struck : (n d : ℕ) → n < dominoes (kb_view k) → look ws n ≡ true → defect_at (kb_view k) (look ws) n ≡ d → 0 < d
       → strike_says (kb k) n ws ≡ struck d n
-  unfolding verdict_numbers
   says-struck n d l e f g =
       says n l ∙ ap (λ (b : Bool). answer n b (eqb (defect_at (kb_view k) (look ws) n) 0) (defect_at (kb_view k) (look ws) n)) e
       ∙ ap (λ (x : ℕ). answer n true (eqb x 0) x) f ∙ ap (λ (b : Bool). answer n true b d) (ne_eqb d 0 (λ q. omega arith))
 
   tells_of : (n : ℕ) → n < dominoes (kb_view k) → Tells (kb k) (kb_view k) ws n
-  unfolding verdict_numbers
   tells_of n l =
       let v : View = kb_view k in
       let d : ℕ = defect_at v (look ws) n in

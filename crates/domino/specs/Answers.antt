@@ -1,44 +1,51 @@
 -- What open, strike, settle and judge answer and leave (01, "The calls, and what each refuses").
-use Rattle.std.specs.Prelude.{ℕ, ◌≡◌, Bool, cond, ◌||◌, List, [], ◌∷◌, eqb, ltb, length}
+use Rattle.std.specs.Prelude.{ℕ, ◌≡◌, Bool, cond, ◌||◌, List, [], ◌∷◌, eqb, ltb, length, Result}
 use Rattle.bitset.specs.Bits.{Set, look, size}
 use Rattle.elimination.specs.Elimination.{settled}
 use Rattle.elimination.specs.Calls.{written, strike_words, settle_words}
 use Rattle.syntax.specs.Reading.{Kb, Reading, refusal, kb, is_read_refusal}
 use Rattle.semantics.specs.Conditions.{View, dominoes, initial, defective, defect_at, canon, held}
 use Rattle.semantics.specs.Views.{kb_view}
-use Rattle.domino.specs.declared.OpenAnswer.{OpenAnswer}
-use Rattle.domino.specs.declared.OpenAnswer.TheVariants.{Refused, Opened}
-use Rattle.domino.specs.declared.Verdict.{Verdict}
-use Rattle.domino.specs.declared.Verdict.TheVariants.{Absent, Struck, Kept}
-use Rattle.domino.specs.declared.StrikeAnswer.{StrikeAnswer}
-use Rattle.domino.specs.declared.StrikeAnswer.TheVariants.{Refused as NotStruck, Tried}
-use Rattle.domino.specs.declared.SettleAnswer.{SettleAnswer}
-use Rattle.domino.specs.declared.SettleAnswer.TheVariants.{Refused as NotSettled, Settled}
-use Rattle.domino.specs.declared.JudgeAnswer.{JudgeAnswer}
-use Rattle.domino.specs.declared.JudgeAnswer.TheVariants.{Refused as NotJudged, Judged}
+use Rattle.refusals.specs.Numbers.{numbers_of}
+use Rattle.refusals.specs.declared.Refusal.{Refusal}
+use Rattle.domino_conditions.specs.Tables.{condition_number}
+use Rattle.domino_settling.specs.declared.judging.Judgement.{Judgement}
+use Rattle.domino_settling.specs.Settling.{met}
+use Rattle.domino.specs.declared.Verdict.{Verdict as CodeVerdict}
+use Rattle.domino.specs.declared.Verdict.TheVariants.{Absent as IsAbsent, Struck as IsStruck, Kept as IsKept}
+use Rattle.domino.specs.declared.Outcome.{Outcome}
 
--- document 01's number and values for each case of an answer: the refusal's number (0 for none), its place, then the values
-unfoldable pub open_numbers : OpenAnswer → List ℕ
-open_numbers (Refused n p) = n ∷ p ∷ []
-open_numbers (Opened size) = 0 ∷ 0 ∷ size ∷ []
+-- strike: "Absent, not in the set; Struck, in it and loose, and now out; Kept, in it and not loose"; with 02, N2, the number of the
+-- condition that a struck domino failed
+pub data Verdict : Type 0 where
+  Absent : Verdict
+  Struck : ℕ → Verdict
+  Kept : Verdict
+
+-- the code's, with the condition's number
+abbrev pub verdict_is : CodeVerdict → Verdict
+verdict_is IsAbsent = Absent
+verdict_is (IsStruck c) = Struck (condition_number c)
+verdict_is IsKept = Kept
 
 -- a verdict's number, then the condition that a struck domino failed
-unfoldable pub verdict_numbers : Verdict → List ℕ
+abbrev pub verdict_numbers : Verdict → List ℕ
 verdict_numbers Absent = 0 ∷ []
 verdict_numbers (Struck condition) = 1 ∷ condition ∷ []
 verdict_numbers Kept = 2 ∷ []
 
-unfoldable pub strike_numbers : StrikeAnswer → List ℕ
-strike_numbers (NotStruck n p) = n ∷ p ∷ []
-strike_numbers (Tried s) = 0 ∷ 0 ∷ s.number ∷ verdict_numbers s.verdict
+-- document 01's number and values for each case of an answer: the refusal's number (0 for none), its place, then the values
+abbrev pub open_numbers : Result ℕ Refusal → List ℕ
+open_numbers = numbers_of (λ size. size ∷ [])
 
-unfoldable pub settle_numbers : SettleAnswer → List ℕ
-settle_numbers (NotSettled n p) = n ∷ p ∷ []
-settle_numbers (Settled survivors) = 0 ∷ 0 ∷ survivors ∷ []
+abbrev pub strike_numbers : Result Outcome Refusal → List ℕ
+strike_numbers = numbers_of (λ s. s.number ∷ verdict_numbers (verdict_is s.verdict))
 
-unfoldable pub judge_numbers : JudgeAnswer → List ℕ
-judge_numbers (NotJudged n p) = n ∷ p ∷ []
-judge_numbers (Judged opening survivors met) = 0 ∷ 0 ∷ opening ∷ survivors ∷ cond met 1 0 ∷ []
+abbrev pub settle_numbers : Result ℕ Refusal → List ℕ
+settle_numbers = numbers_of (λ survivors. survivors ∷ [])
+
+abbrev pub judge_numbers : Result Judgement Refusal → List ℕ
+judge_numbers = numbers_of (λ j. j.opening ∷ j.survivors ∷ cond (met j) 1 0 ∷ [])
 
 -- "10, set too short"
 abbrev pub is_short : Kb → List ℕ → Bool
@@ -69,8 +76,7 @@ open_says = says_on_set (λ k ws. 0 ∷ 0 ∷ size (dominoes (kb_view k)) (initi
 unfoldable pub open_leaves : Reading → List ℕ → List ℕ
 open_leaves = leaves_on_set (λ k ws. written (held (kb_view k)) (dominoes (kb_view k)) (initial (kb_view k)) ws)
 
--- strike: "Absent, not in the set; Struck, in it and loose, and now out; Kept, in it and not loose"; 02, N2: the number "of the
--- first condition that fails in 01's order, and Struck carries it"
+-- 02, N2: the number "of the first condition that fails in 01's order, and Struck carries it"
 unfoldable pub verdict_of : View → Set → ℕ → Verdict
 verdict_of v D n = cond (D n) (cond (eqb (defect_at v D n) 0) Kept (Struck (defect_at v D n))) Absent
 
@@ -101,18 +107,18 @@ unfoldable pub judge_leaves : Reading → List ℕ → List ℕ
 judge_leaves = leaves_on_set (λ k ws. written (held (kb_view k)) (dominoes (kb_view k)) (canon (kb_view k)) ws)
 
 -- the contracts: for a sheet read as s
-pub record Opens (s : Reading) (before after : List ℕ) (r : OpenAnswer) : Type 0 where
+pub record Opens (s : Reading) (before after : List ℕ) (r : Result ℕ Refusal) : Type 0 where
   pub answer : open_numbers r ≡ open_says s before
   pub set : after ≡ open_leaves s before
 
-pub record Strikes (s : Reading) (n : ℕ) (before after : List ℕ) (r : StrikeAnswer) : Type 0 where
+pub record Strikes (s : Reading) (n : ℕ) (before after : List ℕ) (r : Result Outcome Refusal) : Type 0 where
   pub answer : strike_numbers r ≡ strike_says s n before
   pub set : after ≡ strike_leaves s n before
 
-pub record Settles (s : Reading) (before after : List ℕ) (r : SettleAnswer) : Type 0 where
+pub record Settles (s : Reading) (before after : List ℕ) (r : Result ℕ Refusal) : Type 0 where
   pub answer : settle_numbers r ≡ settle_says s before
   pub set : after ≡ settle_leaves s before
 
-pub record Judges (s : Reading) (before after : List ℕ) (r : JudgeAnswer) : Type 0 where
+pub record Judges (s : Reading) (before after : List ℕ) (r : Result Judgement Refusal) : Type 0 where
   pub answer : judge_numbers r ≡ judge_says s before
   pub set : after ≡ judge_leaves s before

@@ -1,6 +1,6 @@
 -- What judge decides: the one statement for a user, of any bytes and any words. It puts the contract of judge, demands 1 and 2 and
 -- the theorem on models together. Proved in proofs/Decides.antt.
-use Rattle.std.specs.Prelude.{ℕ, ◌<◌, ◌≤◌, ◌≡◌, ◌⊎◌, ◌↔◌, Bool, true, false, List, length, drop}
+use Rattle.std.specs.Prelude.{ℕ, ◌<◌, ◌≤◌, ◌≡◌, ◌⊎◌, ◌↔◌, Bool, true, false, List, length, drop, Result, Ok, Err}
 use Rattle.bitset.specs.Bits.{look, size}
 use Rattle.elimination.specs.Calls.{written}
 use Rattle.records.specs.Places.{Placed}
@@ -11,8 +11,10 @@ use Rattle.semantics.specs.Dominoes.{Domino, number}
 use Rattle.semantics.specs.Conditions.{LargestStable, dominoes, initial, canon, canon_dominoes, held}
 use Rattle.semantics.specs.Views.{kb_view}
 use Rattle.semantics.specs.Projection.{projection}
-use Rattle.domino.specs.declared.JudgeAnswer.{JudgeAnswer}
-use Rattle.domino.specs.declared.JudgeAnswer.TheVariants.{Refused, Judged}
+use Rattle.refusals.specs.Numbers.{number as number_of}
+use Rattle.refusals.specs.declared.Refusal.{Refusal}
+use Rattle.domino_settling.specs.declared.judging.Judgement.{Judgement}
+use Rattle.domino_settling.specs.Settling.{met}
 use Rattle.domino.specs.Answers.{is_set_refusal}
 
 -- judge refuses with a number n and a place p
@@ -50,7 +52,7 @@ pub record DecidedRightly (k : Kb) (before after : List ℕ) (opening survivors 
   pub survivor_count : survivors ≡ size (dominoes (kb_view k)) (canon (kb_view k))
 
 -- either judge refuses, rightly and with nothing touched; or the sheet is read, and judge has decided it rightly
-abbrev pub Decides : List ℕ → List ℕ → List ℕ → JudgeAnswer → Type 0
-Decides sheet before after (Refused n p) = RefusedRightly sheet before after n p
-Decides sheet before after (Judged opening survivors met) =
-    (k : Kb) × (read_kb limit sheet ≡ kb k) × DecidedRightly k before after opening survivors met
+abbrev pub Decides : List ℕ → List ℕ → List ℕ → Result Judgement Refusal → Type 0
+Decides sheet before after (Err r) = RefusedRightly sheet before after (number_of r.reason) r.place
+Decides sheet before after (Ok j) =
+    (k : Kb) × (read_kb limit sheet ≡ kb k) × DecidedRightly k before after j.opening j.survivors (met j)

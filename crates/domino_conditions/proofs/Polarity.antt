@@ -1,19 +1,29 @@
--- The two-way tests are the conditions 2 to 5; each part's share in them; they do not look at the good labels.
+-- The two-way tests are the conditions 2 to 5; each part's share in them.
 use mathlib.Core.Path.{◌≡◌, refl, sym as flip, ap, subst, ◌∙◌}
-use mathlib.Core.List.{List, []}
 use mathlib.Core.Bool.{Bool, true, false, not, ◌&&◌, ◌||◌, and-false}
 use Prim.Native.Nat.{ℕ, ◌+◌, ◌≤◌, ◌<◌}
 use native.Mathlib.Omega.{arith}
 use lib.Dec.{eqb}
+use lib.ListN.{length, get_or}
 use borrow.Author.Tests.{eq-eqb, ne_eqb}
-use Rattle.bitset.specs.Bits.{bit}
+use Rattle.std.specs.Prelude.{List, Some, None}
+use Rattle.std.specs.Bool.{then_some}
+use Rattle.std.proofs.lemmas.List.{get_or_default}
+use Rattle.bitset.specs.Bits.{bit, look}
 use Rattle.elimination.specs.Sets.{every}
 use Rattle.elimination.proofs.Quantifiers.{all_same, every-none, every_more, every-fails}
 use Rattle.semantics.specs.Dominoes.{Dominoes}
 use Rattle.semantics.specs.Conditions.{View, ex, uni, witness, delex, deluni}
-use Rattle.domino_conditions.specs.Tables.{view}
-use Rattle.tbox.specs.declared.base.Parts.{Parts}
-use Rattle.domino_conditions.specs.Polarity.{as_wanted_lem, kind_for_lem, asks_of_right_lem, breaks, right_fits_lem, wants_witness_lem, has_witness_lem, witnessed, row_defect_lem}
+use Rattle.flattening.specs.declared.parts.Quantifier.{Quantifier}
+use Rattle.flattening.specs.declared.parts.Quantifier.TheVariants.{Exists, Forall}
+use Rattle.tbox.specs.declared.base.Filler.{Filler}
+use Rattle.tbox.specs.declared.base.Kind.{Kind}
+use Rattle.tbox.specs.declared.base.Kind.TheVariants.{Name, Fresh, Restriction}
+use Rattle.tbox.specs.declared.base.Part.{Part}
+use Rattle.tbox.specs.declared.base.Base.{Base}
+use Rattle.tbox.specs.Promise.{kind_number, part_in, no_part}
+use Rattle.domino_conditions.specs.Tables.{filler_in_label_lem, kind_has, view}
+use Rattle.domino_conditions.specs.Polarity.{wants, as_wanted_lem, kind_for_lem, asks_of_right_lem, breaks, right_fits_lem, wants_witness_lem, has_witness_lem, witnessed, IsFillerOf, AskedOfRight, WantedOfRow}
 
 -- ---- the conditions
 
@@ -96,6 +106,70 @@ module _ (v : View) (w : Bool) (A k : ℕ) where
     unfolding breaks
     breaks_last B y x z e h l m = rw (← e, h) (m ∙ ap (as_wanted_lem w) l)
 
+-- ---- what a part asks, by what the code tests
+
+kind_is_for : (d : Kind) (q : Quantifier) (f : Filler) → d ≡ Restriction q f → kind_number d ≡ kind_for_lem (wants q)
+unfolding kind_number
+kind_is_for d Exists f e = ap kind_number e
+kind_is_for d Forall f e = ap kind_number e
+
+kind_other : (d : Kind) (q : Quantifier) → IsFillerOf d q None → kind_number d ≡ kind_for_lem (wants q) → ⊥
+unfolding kind_number
+kind_other Name Exists n e = omega arith
+kind_other Name Forall n e = omega arith
+kind_other Fresh Exists n e = omega arith
+kind_other Fresh Forall n e = omega arith
+kind_other (Restriction Exists f) Exists n e = n f refl
+kind_other (Restriction Exists f) Forall n e = omega arith
+kind_other (Restriction Forall f) Exists n e = omega arith
+kind_other (Restriction Forall f) Forall n e = n f refl
+
+-- the part that stands at k
+pub part_here : (b : Base) (ps : List Part) (k : ℕ) (d : Part) → ps ≡ b.parts.items → k < length ps → part_in b k ≡ get_or ps k d
+part_here b ps k d e h = flip (ap (λ (xs : List Part). get_or xs k no_part) e) ∙ get_or_default ps k no_part d h
+
+pub part_count : (b : Base) (ps : List Part) → ps ≡ b.parts.items → length ps ≡ b.size.parts
+part_count b ps e = ap (λ (xs : List Part). length xs) e ∙ b.all
+
+module _ (p : Part) (q : Quantifier) (a k : ℕ) where
+  kind_here : (b : Base) → part_in b k ≡ p → (view b).kind k ≡ kind_number p.kind
+  kind_here b e = ap (λ (x : Part). kind_number x.kind) e
+
+  filler_here : (f : Filler) → IsFillerOf p.kind q (Some f) → (b : Base) → part_in b k ≡ p → (B : ℕ) → filler_in_label_lem f B ≡ (view b).has k B
+  unfolding kind_has
+  filler_here f i b e B = flip (ap (λ (x : Part). kind_has x.kind B) e ∙ ap (λ (x : Kind). kind_has x B) i)
+
+  pub wanted_none : IsFillerOf p.kind q None → WantedOfRow p q a k None
+  wanted_none n b e = flip (wants_other (view b) (wants q) a k _ refl (λ h. kind_other p.kind q n (flip (kind_here b e) ∙ h)))
+
+  pub wanted_if : (f : Filler) (x y : Bool) → IsFillerOf p.kind q (Some f) → x ≡ bit a k → y ≡ as_wanted_lem (wants q) x
+      → WantedOfRow p q a k (then_some y f)
+  wanted_if f x true i g h b e =
+      (flip (wants_kind (view b) (wants q) a k _ x true refl (kind_here b e ∙ kind_is_for p.kind q f i) g h), filler_here f i b e)
+  wanted_if f x false i g h b e =
+      flip (wants_kind (view b) (wants q) a k _ x false refl (kind_here b e ∙ kind_is_for p.kind q f i) g h)
+
+  module _ (r : ℕ) where
+    pub asked_none : IsFillerOf p.kind q None → AskedOfRight p q a r k None
+    asked_none n b e = flip (asks_other (view b) (wants q) a k r _ refl (λ h. kind_other p.kind q n (flip (kind_here b e) ∙ h)))
+
+    pub asked_in : (x y : Bool) → x ≡ bit a k → y ≡ as_wanted_lem (wants q) x → y ≡ true → AskedOfRight p q a r k None
+    asked_in x y f g h b e = flip (asks_in (view b) (wants q) a k r x y f g h)
+
+    -- z says whether the role holds
+    module _ (f : Filler) (x y z : Bool) (i : IsFillerOf p.kind q (Some f)) (g : x ≡ bit a k) (h : y ≡ as_wanted_lem (wants q) x)
+        (j : y ≡ false) (l : z ≡ look p.role r) where
+      asked_last : (b : Base) → part_in b k ≡ p → z ≡ asks_of_right_lem (view b) (wants q) a r k
+      asked_last b e =
+          asks_last (view b) (wants q) a k r _ x y z refl (kind_here b e ∙ kind_is_for p.kind q f i) g h j
+          (l ∙ flip (ap (λ (x : Part). look x.role r) e))
+
+      pub asked_off : z ≡ false → AskedOfRight p q a r k None
+      asked_off m b e = flip (asked_last b e) ∙ m
+
+      pub asked_on : z ≡ true → AskedOfRight p q a r k (Some f)
+      asked_on m b e = (flip (asked_last b e) ∙ m, filler_here f i b e)
+
 -- ---- all parts, one after another
 
 module _ (v : View) (w : Bool) (A R B : ℕ) where
@@ -118,14 +192,3 @@ module _ (v : View) (w : Bool) (A R B : ℕ) where
   fits_end k l m p =
       let e : k ≡ v.parts = omega arith in
       flip (subst (λ (n : ℕ). every n (λ j. not (breaks v w A R B j)) ≡ true) e p)
-
--- ---- conditions 2 to 5 do not look at the good labels
-
-module _ (p : Parts) (role good : List ℕ) where
-  pub fits-good : (w : Bool) (A R B : ℕ) → right_fits_lem (view p role []) w A R B ≡ right_fits_lem (view p role good) w A R B
-  unfolding right_fits_lem breaks asks_of_right_lem
-  fits-good w A R B = refl
-
-  pub row-good : (D : Dominoes) (A : ℕ) → row_defect_lem (view p role []) D A ≡ row_defect_lem (view p role good) D A
-  unfolding row_defect_lem witnessed wants_witness_lem has_witness_lem witness
-  row-good D A = refl

@@ -1,19 +1,19 @@
 -- The search for a part's witness in a row, by loops over role sets and right labels, and the walk over all parts.
-use mathlib.Core.Path.{◌≡◌, refl, sym, ap, ap₂, subst, ◌∙◌}
+use mathlib.Core.Path.{◌≡◌, sym, ap, ap₂, subst, ◌∙◌}
 use mathlib.Core.Bool.{Bool, true, false, not, ◌&&◌, and-false}
-use mathlib.Core.List.{List, []}
 use Prim.Native.Nat.{ℕ, ◌+◌, ◌*◌, ◌^◌, ◌≤◌, ◌<◌}
 use native.Mathlib.Omega.{arith}
-use lib.ListN.{get_or}
 use Rattle.bitset.specs.Bits.{Set}
 use Rattle.elimination.specs.Sets.{every, some}
-use Rattle.elimination.proofs.Quantifiers.{any_intro, some_more, every_more, every-fails}
+use Rattle.elimination.proofs.Quantifiers.{any_intro, any_same, some_more, every_more, every-fails}
 use Rattle.semantics.specs.Dominoes.{Dominoes, number, numbered}
 use Rattle.semantics.specs.Conditions.{View, witness}
-use Rattle.domino_conditions.specs.Tables.{view, search_view}
-use Rattle.domino_conditions.specs.Polarity.{as_wanted_lem, wants_witness_lem, has_witness_lem, witnessed, row_defect_lem}
-use Rattle.tbox.specs.declared.base.Parts.{Parts}
-use Rattle.domino_conditions.proofs.Rows.{number_at, sets_are}
+use Rattle.flattening.specs.declared.parts.Quantifier.{Quantifier}
+use Rattle.tbox.specs.declared.base.Filler.{Filler}
+use Rattle.tbox.specs.declared.base.Base.{Base}
+use Rattle.domino_conditions.specs.Tables.{filler_in_label_lem, view}
+use Rattle.domino_conditions.specs.Polarity.{wants, as_wanted_lem, wants_witness_lem, has_witness_lem, witnessed, row_defect_lem}
+use Rattle.domino_conditions.proofs.Rows.{number_at}
 
 -- ---- one run: t tests the right label, S the number
 module _ (c l A : ℕ) (t : ℕ → Bool) (S : Set) where
@@ -48,33 +48,34 @@ module _ (c l A : ℕ) (t : ℕ → Bool) (S : Set) where
     unfolding run_has_witness
     in_hit R B labels y e u i q g = ap₂ ◌&&◌ (sym i ∙ q) (any_intro (2 ^ c) (is_witness_lem R) B (omega arith) g)
 
--- ---- what the search answers
-module _ (v : View) (w : Bool) (S : Set) (A k : ℕ) where
+-- ---- what the search answers: t tests the right label, h the role set
+module _ (v : View) (S : Set) (A k : ℕ) (t h : ℕ → Bool) (e : (R : ℕ) → v.holds k R ≡ h R) where
   abbrev tried : ℕ → Bool
-  tried = run_has_witness v.parts v.roles A (λ B. as_wanted_lem w (v.has k B)) S (v.holds k)
+  tried = run_has_witness v.parts v.roles A t S h
 
-  found_is : has_witness_lem v w (numbered v.parts v.roles S) A k ≡ some (2 ^ (2 * v.roles)) tried
-  unfolding has_witness_lem witness numbered is_witness_lem run_has_witness
-  found_is = refl
+  found_is : witness v (numbered v.parts v.roles S) A k t ≡ some (2 ^ (2 * v.roles)) tried
+  unfolding witness numbered is_witness_lem run_has_witness
+  found_is = any_same (2 ^ (2 * v.roles)) _ _ (λ R l. ap (λ (x : Bool). x && some (2 ^ v.parts) (is_witness_lem v.parts v.roles A t S R)) (e R))
 
-  pub found_none : (R sets : ℕ) → sets ≡ 2 ^ (v.roles + v.roles) → R ≤ sets → sets ≤ R → some R tried ≡ false
-      → false ≡ has_witness_lem v w (numbered v.parts v.roles S) A k
-  found_none R sets e u d q =
-      let s : R ≡ 2 ^ (2 * v.roles) = omega (arith, sets_are v.roles sets e) in
+  pub found_none : (R sets : ℕ) → sets ≡ 2 ^ (2 * v.roles) → R ≤ sets → sets ≤ R → some R tried ≡ false
+      → false ≡ witness v (numbered v.parts v.roles S) A k t
+  found_none R sets g u d q =
+      let s : R ≡ 2 ^ (2 * v.roles) = omega arith in
       sym (found_is ∙ ap (λ (n : ℕ). some n tried) (sym s) ∙ q)
 
-  pub found_hit : (R sets : ℕ) → sets ≡ 2 ^ (v.roles + v.roles) → R < sets → tried R ≡ true
-      → true ≡ has_witness_lem v w (numbered v.parts v.roles S) A k
-  found_hit R sets e u q =
-      sym (found_is ∙ any_intro (2 ^ (2 * v.roles)) tried R (omega (arith, sets_are v.roles sets e)) q)
+  pub found_hit : (R sets : ℕ) → sets ≡ 2 ^ (2 * v.roles) → R < sets → tried R ≡ true
+      → true ≡ witness v (numbered v.parts v.roles S) A k t
+  found_hit R sets g u q = sym (found_is ∙ any_intro (2 ^ (2 * v.roles)) tried R (omega arith) q)
+
+-- the search is that of a part with the filler f
+pub found_for : (b : Base) (D : Dominoes) (A k : ℕ) (q : Quantifier) (f : Filler) → ((B : ℕ) → filler_in_label_lem f B ≡ (view b).has k B)
+    → witness (view b) D A k (λ B. as_wanted_lem (wants q) (filler_in_label_lem f B)) ≡ has_witness_lem (view b) (wants q) D A k
+unfolding has_witness_lem witness
+found_for b D A k q f e =
+    any_same _ _ _ (λ R h. ap (λ (x : Bool). (view b).holds k R && x)
+    (any_same _ _ _ (λ B l. ap (λ (x : Bool). as_wanted_lem (wants q) x && D A R B) (e B))))
 
 -- ---- the walk over all parts
-
--- the search looks at no more of the parts than the one filler
-pub found_view : (p : Parts) (role : List ℕ) (w : Bool) (D : Dominoes) (A k : ℕ)
-    → has_witness_lem (search_view p.count p.roles role (get_or p.filler k 0)) w D A k ≡ has_witness_lem (view p role []) w D A k
-unfolding has_witness_lem witness
-found_view p role w D A k = refl
 
 module _ (v : View) (w : Bool) (D : Dominoes) (A : ℕ) where
   -- part j does not lack a witness

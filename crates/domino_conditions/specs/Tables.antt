@@ -1,61 +1,69 @@
--- What the tables of a flattened knowledge base say: the view of the struct Parts, the words of roles, four to a part, and the
--- words of good labels.
-use Rattle.std.specs.Prelude.{ℕ, ◌+◌, ◌*◌, ◌/◌, ◌%◌, ◌^◌, ◌≤◌, ◌<◌, Bool, false, cond, List, eqb, ltb, get_or}
+-- What the flattened knowledge base that the code holds says: its view, and the room that a domino set takes.
+use Rattle.std.specs.Prelude.{ℕ, ◌+◌, ◌*◌, ◌^◌, ◌≤◌, ◌<◌, Bool, true, false, Option, Some, None}
 use Rattle.bitset.specs.Bits.{bit, look, words_for_lem}
 use Rattle.semantics.specs.Dominoes.{total}
 use Rattle.semantics.specs.Conditions.{View}
-use Rattle.tbox.specs.declared.base.Parts.{Parts}
-use Rattle.syntax.specs.Parts.{everything_no}
+use Rattle.tbox.specs.declared.base.Filler.{Filler}
+use Rattle.tbox.specs.declared.base.Filler.TheVariants.{Everything, Nothing, Part as PartFiller}
+use Rattle.tbox.specs.declared.base.Kind.{Kind}
+use Rattle.tbox.specs.declared.base.Kind.TheVariants.{Name, Fresh, Restriction}
+use Rattle.tbox.specs.declared.base.Part.{Part}
+use Rattle.tbox.specs.declared.base.Base.{Base}
+use Rattle.tbox.specs.Promise.{kind_number, part_in}
+use Rattle.domino_conditions.specs.declared.conditions.Condition.{Condition}
+use Rattle.domino_conditions.specs.declared.conditions.Condition.TheVariants.{Kb, Ex, Uni, DelEx, DelUni, Sym}
 
--- is the filler f (a part's number, everything's, another number nothing) in the label B
-unfoldable pub filler_in_label_lem : ℕ → ℕ → Bool
-filler_in_label_lem f B = cond (ltb f 64) (bit B f) (eqb f everything_no)
+-- document 01's number of a condition, and of the first that fails: 0 for none
+abbrev pub condition_number : Condition → ℕ
+condition_number Kb = 1
+condition_number Ex = 2
+condition_number Uni = 3
+condition_number DelEx = 4
+condition_number DelUni = 5
+condition_number Sym = 6
 
--- does the role of part k hold on the role set R
-abbrev pub role_holds_on_lem : List ℕ → ℕ → ℕ → Bool
-role_holds_on_lem role k R = bit (get_or role (4 * k + R / 64) 0) (R % 64)
+abbrev pub defect_number : Option Condition → ℕ
+defect_number None = 0
+defect_number (Some c) = condition_number c
 
-abbrev pub view : Parts → List ℕ → List ℕ → View
-view p role good = record {
-  parts = p.count;
-  roles = p.roles;
-  kind = λ k. get_or p.kind k 0;
-  holds = role_holds_on_lem role;
-  has = λ k B. filler_in_label_lem (get_or p.filler k 0) B;
-  good = look good;
+-- is the filler in the label B
+unfoldable pub filler_in_label_lem : Filler → ℕ → Bool
+filler_in_label_lem Everything B = true
+filler_in_label_lem Nothing B = false
+filler_in_label_lem (PartFiller k) B = bit B k
+
+-- a restriction's
+unfoldable pub kind_has : Kind → ℕ → Bool
+kind_has Name B = false
+kind_has Fresh B = false
+kind_has (Restriction q f) B = filler_in_label_lem f B
+
+-- does the role of a part hold on the role set R
+abbrev pub role_holds_on_lem : Part → ℕ → Bool
+role_holds_on_lem p R = look p.role R
+
+abbrev pub view : Base → View
+view b = record {
+  parts = b.size.parts;
+  roles = b.size.roles;
+  kind = λ k. kind_number (part_in b k).kind;
+  holds = λ k R. role_holds_on_lem (part_in b k) R;
+  has = λ k B. kind_has (part_in b k).kind B;
+  good = look b.good;
 }
 
--- what the search for a part's witness looks at: c parts, l roles, and the part's filler f
-abbrev pub search_view : ℕ → ℕ → List ℕ → ℕ → View
-search_view c l role f = record {
-  parts = c;
-  roles = l;
-  kind = λ _. 0;
-  holds = role_holds_on_lem role;
-  has = λ _ B. filler_in_label_lem f B;
-  good = λ _. false;
-}
-
--- the sizes that the reader keeps to
-pub record Sized (p : Parts) : Type 0 where
-  pub within : p.count + p.roles ≤ 12
-  pub few : p.roles ≤ 4
-
--- the sizes, and a set of so many words has room for all dominoes
-pub record Room (p : Parts) (words : ℕ) : Type 0 where
-  pub sized : Sized p
-  pub room : total p.count p.roles ≤ 64 * words
+-- a set of so many words has room for all dominoes
+abbrev pub Room : Base → ℕ → Type 0
+Room b words = total b.size.parts b.size.roles ≤ 64 * words
 
 -- the words needed are there
-pub record Enough (p : Parts) (words : ℕ) : Type 0 where
-  pub sized : Sized p
-  pub room : words_for_lem (total p.count p.roles) ≤ words
+abbrev pub Enough : Base → ℕ → Type 0
+Enough b words = words_for_lem (total b.size.parts b.size.roles) ≤ words
 
--- the sizes, room for all dominoes, and a is a label
-pub record Row (p : Parts) (a words : ℕ) : Type 0 where
-  pub sized : Sized p
-  pub label : a < 2 ^ p.count
-  pub room : total p.count p.roles ≤ 64 * words
+-- room for all dominoes, and a is a label
+pub record Row (b : Base) (a words : ℕ) : Type 0 where
+  pub label : a < 2 ^ b.size.parts
+  pub room : Room b words
 
 -- the same of a row of c parts and l roles
 pub record RowOf (c l a words : ℕ) : Type 0 where

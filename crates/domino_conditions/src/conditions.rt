@@ -1,177 +1,113 @@
-// The tests of the six conditions: of a left label alone (1, 4, 5), and of a domino (2, 3, 6). With the parts go two tables, lent:
-// four words a part of the role sets on which its role holds, and the labels on which every flattened axiom is true.
-ghost use Rattle.std.specs.Prelude.{◌≡◌, true, false, not, ◌&&◌, [], ◌+◌, ◌*◌, ◌/◌, ◌%◌, ◌<◌, length, get_or};
+// The tests of the six conditions: of a left label alone (1, 4, 5), and of a domino (2, 3, 6).
+ghost use Rattle.std.specs.Prelude.{◌≡◌, ◌*◌, ◌<◌, length};
 ghost use Rattle.bitset.specs.Bits.{bit, look};
-ghost use Rattle.semantics.specs.Dominoes.{total, number, numbered};
-ghost use Rattle.semantics.specs.Conditions.{View, defect_at};
-ghost use Rattle.domino_conditions.specs.Tables.{filler_in_label_lem, role_holds_on_lem, view, search_view, Sized, Room, RowOf, Row};
-ghost use Rattle.domino_conditions.specs.Polarity.{as_wanted_lem, kind_for_lem, asks_of_right_lem, right_fits_lem, wants_witness_lem, has_witness_lem, witnessed, row_defect_lem};
+ghost use Rattle.domino_conditions.specs.Tables.{view, filler_in_label_lem, condition_number, Room};
+ghost use Rattle.domino_conditions.specs.Polarity.{as_wanted_lem, right_fits_lem, wants, IsFillerOf, AskedOfRight, WantedOfRow};
 
-use crate::numbers::{index, inverse, left_of, pow, right_of, roles_of};
-use flattening::EVERYTHING;
-use tbox::base::{Parts, ROLE_WORDS};
+use crate::numbers::{index, inverse, labels, left_of, right_of, role_sets, roles_of};
+use flattening::parts::Quantifier;
+use tbox::base::{Base, Filler, Kind, Part};
 
-// Is the filler f in the label b?
-fn filler_in_label(f: u16, b: usize) -> bool
-    ensures { result ≡ filler_in_label_lem f b }
-{
-    if f < 64 {
-        return (b >> f) % 2 == 1;
+// The six conditions by document 01's numbers.
+#[derive(Clone, Copy, PartialEq, Eq)]
+pub enum Condition {
+    Kb = 1,
+    Ex = 2,
+    Uni = 3,
+    DelEx = 4,
+    DelUni = 5,
+    Sym = 6,
+}
+
+impl Condition {
+    pub fn number(self) -> u8
+        ensures { result ≡ condition_number self }
+    {
+        self as u8
     }
-    f == EVERYTHING
 }
 
-// Does the role of part k hold on the role set r?
-fn role_holds_on(role: &[u64; ROLE_WORDS], k: usize, r: usize) -> bool
-    requires { (k < 20) × (r < 256) }
-    ensures { result ≡ role_holds_on_lem role.now k r }
-{
-    let i = (k << 2) + r / 64;
-    (role[i] >> (r % 64)) % 2 == 1
-}
-
-pub fn as_wanted(want: bool, x: bool) -> bool
-    ensures { result ≡ as_wanted_lem want x }
-{
-    if want { x } else { !x }
-}
-
-fn kind_for(want: bool) -> u8
-    ensures { result ≡ kind_for_lem want }
-{
-    if want { 2 } else { 3 }
-}
-
-fn part_in_label(a: usize, k: usize) -> bool
+fn part_in_label(label: usize, k: usize) -> bool
     requires { k < 64 }
-    ensures { result ≡ bit a k }
+    ensures { result ≡ bit label k }
 {
-    (a >> k) % 2 == 1
+    (label >> k) % 2 == 1
+}
+
+fn filler_in_label(filler: Filler, label: usize) -> bool
+    ensures { result ≡ filler_in_label_lem filler label }
+{
+    match filler {
+        Filler::Everything => true,
+        Filler::Nothing => false,
+        Filler::Part(k) => k < 64 && part_in_label(label, usize::from(k)),
+    }
+}
+
+// What an existential part wants in, a universal part wants out.
+pub fn as_wanted(quantifier: Quantifier, x: bool) -> bool
+    ensures { result ≡ as_wanted_lem (wants quantifier) x }
+{
+    match quantifier {
+        Quantifier::Exists => x,
+        Quantifier::Forall => !x,
+    }
 }
 
 // Condition 1 of the left label a.
-pub fn is_good(good: &[u64; 64], a: usize) -> bool
+pub fn is_good(base: &Base, a: usize) -> bool
     requires { a < 4096 }
-    ensures { result ≡ look good.now a }
+    ensures { result ≡ look base.now.good a }
 {
-    let i = a / 64;
-    (good[i] >> (a % 64)) % 2 == 1
+    bitset::member(&base.good, a)
 }
 
-// Is the domino of the run from `at` on with right label b in the set, and has b the filler, or lacks it, as is wanted?
-fn is_witness(set: &[u64], f: u16, want: bool, at: usize, b: usize) -> bool
-    requires { (at + b < 64 * length set.now) × (at + b < 16777216) }
-    ensures { result ≡ (as_wanted_lem want (filler_in_label_lem f b) && look set.now (at + b)) }
+// The filler of a restriction with this quantifier.
+fn filler_of(part: &Part, quantifier: Quantifier) -> Option<Filler>
+    ensures { IsFillerOf part.now.kind quantifier result }
 {
-    as_wanted(want, filler_in_label(f, b)) && bitset::member(set, at + b)
-}
-
-// Has part k, with the filler f, a witness in the row a? The search stops at the first one found.
-fn has_witness(
-    set: &[u64],
-    c: usize,
-    l: usize,
-    role: &[u64; ROLE_WORDS],
-    a: usize,
-    k: usize,
-    f: u16,
-    want: bool,
-) -> bool
-    requires { RowOf c l a (length set.now) × (k < 20) }
-    ensures { result ≡ has_witness_lem (search_view c l role.now f) want (numbered c l (look set.now)) a k }
-{
-    let sets = pow(l + l);
-    let labels = pow(c);
-    let mut found = false;
-    'search: for r in 0..sets {
-        if role_holds_on(role, k, r) {
-            let at = index(c, l, a, r, 0);
-            for b in 0..labels {
-                if is_witness(set, f, want, at, b) {
-                    found = true;
-                    break 'search;
-                }
-            }
-        }
+    match part.kind {
+        Kind::Name | Kind::Fresh => None,
+        Kind::Restriction(q, filler) => (q == quantifier).then_some(filler),
     }
-    found
 }
 
-// Does the label a want a witness for part k, of the given kind?
-fn wants_witness(kind: u8, a: usize, k: usize, want: bool) -> bool
-    requires { k < 20 }
-    ensures { (v : View) → v.kind k ≡ kind → result ≡ wants_witness_lem v want a k }
+// Quantifier and left label go side by side: a struct of the two has no fact of its own, and each call would build it to take it apart.
+// What part k, with this quantifier, wants of the row a: a witness with its filler (Exists), or without it (Forall).
+fn wanted_of_row(part: &Part, quantifier: Quantifier, a: usize, k: usize) -> Option<Filler>
+    requires { k < 64 }
+    ensures { WantedOfRow part.now quantifier a k result }
 {
-    if kind != kind_for(want) {
-        return false;
-    }
-    as_wanted(want, part_in_label(a, k))
+    let filler = filler_of(part, quantifier)?;
+    as_wanted(quantifier, part_in_label(a, k)).then_some(filler)
 }
 
-// Conditions 4 (want) and 5 (not want) of the left label a: each part that wants a witness has one.
-fn witnessed(set: &[u64], p: Parts, role: &[u64; ROLE_WORDS], a: usize, want: bool) -> bool
-    requires { Row p a (length set.now) }
-    ensures { result ≡ witnessed (view p role.now []) want (numbered p.count p.roles (look set.now)) a }
-{
-    let c = p.count;
-    for k in 0..c {
-        let kind = p.kind[k];
-        if wants_witness(kind, a, k, want) {
-            let f = p.filler[k];
-            if !has_witness(set, c, p.roles, role, a, k, f, want) {
-                return false;
-            }
-        }
-    }
-    true
-}
-
-// The first of the conditions 4 and 5 that the left label a fails, 0 for none.
-pub fn row_defect(set: &[u64], p: Parts, role: &[u64; ROLE_WORDS], a: usize) -> u8
-    requires { Row p a (length set.now) }
-    ensures { result ≡ row_defect_lem (view p role.now []) (numbered p.count p.roles (look set.now)) a }
-{
-    if !witnessed(set, p, role, a, true) {
-        return 4;
-    }
-    if !witnessed(set, p, role, a, false) {
-        return 5;
-    }
-    0
-}
-
-// Does part k, of the given kind, ask something of the right label of (a, r, _)?
-pub fn asks_of_right(
-    kind: u8,
-    role: &[u64; ROLE_WORDS],
+// What part k, with this quantifier, asks of the right label of (a, r, _): its filler, to be out (Exists) or in (Forall).
+pub fn asked_of_right(
+    part: &Part,
+    quantifier: Quantifier,
     a: usize,
     r: usize,
     k: usize,
-    want: bool,
-) -> bool
-    requires { (k < 20) × (r < 256) }
-    ensures { (p : Parts) → get_or p.kind k 0 ≡ kind → result ≡ asks_of_right_lem (view p role.now []) want a r k }
+) -> Option<Filler>
+    requires { (k < 64) × (r < 256) }
+    ensures { AskedOfRight part.now quantifier a r k result }
 {
-    if kind != kind_for(want) {
-        return false;
+    let filler = filler_of(part, quantifier)?;
+    if as_wanted(quantifier, part_in_label(a, k)) || !bitset::member(&part.role, r) {
+        return None;
     }
-    if as_wanted(want, part_in_label(a, k)) {
-        return false;
-    }
-    role_holds_on(role, k, r)
+    Some(filler)
 }
 
-// Conditions 2 (want) and 3 (not want) of the domino (a, r, b): it breaks nothing that a part asks.
-fn right_fits(p: Parts, role: &[u64; ROLE_WORDS], a: usize, r: usize, b: usize, want: bool) -> bool
-    requires { Sized p × (r < 256) }
-    ensures { result ≡ right_fits_lem (view p role.now []) want a r b }
+// Conditions 2 (Exists) and 3 (Forall) of the domino (a, r, b): it breaks nothing that a part asks.
+fn right_fits(base: &Base, quantifier: Quantifier, a: usize, r: usize, b: usize) -> bool
+    requires { r < 256 }
+    ensures { result ≡ right_fits_lem (view base.now) (wants quantifier) a r b }
 {
-    let c = p.count;
-    for k in 0..c {
-        let kind = p.kind[k];
-        if asks_of_right(kind, role, a, r, k, want) {
-            let f = p.filler[k];
-            if as_wanted(want, filler_in_label(f, b)) {
+    for (k, part) in base.parts.iter().enumerate() {
+        if let Some(filler) = asked_of_right(part, quantifier, a, r, k) {
+            if as_wanted(quantifier, filler_in_label(filler, b)) {
                 return false;
             }
         }
@@ -179,29 +115,108 @@ fn right_fits(p: Parts, role: &[u64; ROLE_WORDS], a: usize, r: usize, b: usize, 
     true
 }
 
-// The number of the first condition that the domino n fails, 0 for none.
-pub fn defect(set: &[u64], p: Parts, role: &[u64; ROLE_WORDS], good: &[u64; 64], n: usize) -> u8
-    requires { Room p (length set.now) × (n < total p.count p.roles) }
-    ensures { result ≡ defect_at (view p role.now good.now) (look set.now) n }
-{
-    let c = p.count;
-    let l = p.roles;
-    let a = left_of(c, l, n);
-    let r = roles_of(c, l, n);
-    let b = right_of(c, n);
-    if !is_good(good, a) {
-        return 1;
+// A domino set in lent words, and the knowledge base that it is tested on: there is room for each domino.
+#[derive(Clone, Copy)]
+pub struct DominoSet<'a> {
+    pub set: &'a [u64],
+    pub base: &'a Base,
+    ghost room: { Room base.now (length set.now) },
+}
+
+impl DominoSet<'_> {
+    ghost use Rattle.std.specs.Prelude.{◌≡◌, ◌&&◌, ◌/◌, ◌<◌, length};
+    ghost use Rattle.bitset.specs.Bits.{look};
+    ghost use Rattle.semantics.specs.Conditions.{defect, defect_at};
+    ghost use Rattle.domino_conditions.specs.Tables.{filler_in_label_lem, defect_number};
+    ghost use Rattle.domino_conditions.specs.Polarity.{as_wanted_lem, witnessed, wants, row_defect_lem};
+    ghost use Rattle.domino_conditions.specs.Sets.{view_of, dominoes_of, IsLabel, IsNumber, IsDomino, Found};
+
+    // Is the domino n, with the right label b, in the set, and has b the filler, or lacks it, as is wanted?
+    fn is_witness(&self, quantifier: Quantifier, filler: Filler, n: usize, b: usize) -> bool
+        requires { n / 64 < length self.now.set.now }
+        ensures { result ≡ (as_wanted_lem (wants quantifier) (filler_in_label_lem filler b) && look self.now.set.now n) }
+    {
+        as_wanted(quantifier, filler_in_label(filler, b)) && bitset::member(self.set, n)
     }
-    if !right_fits(p, role, a, r, b, true) {
-        return 2;
+
+    // Has a part with this filler a witness in the row a? The two loops are left by a label at the first one, as document 01 asks.
+    fn has_witness(&self, part: &Part, quantifier: Quantifier, filler: Filler, a: usize) -> bool
+        requires { IsLabel self.now a }
+        ensures { Found self.now part.now quantifier filler a result }
+    {
+        let labels = labels(self.base.size);
+        let mut found = false;
+        'search: for r in 0..role_sets(self.base.size) {
+            if bitset::member(&part.role, r) {
+                let at = index(self.base.size, a, r, 0);
+                for b in 0..labels {
+                    if self.is_witness(quantifier, filler, at + b, b) {
+                        found = true;
+                        break 'search;
+                    }
+                }
+            }
+        }
+        found
     }
-    if !right_fits(p, role, a, r, b, false) {
-        return 3;
+
+    // Conditions 4 (Exists) and 5 (Forall) of the left label a: each part that wants a witness has one.
+    fn witnessed(&self, quantifier: Quantifier, a: usize) -> bool
+        requires { IsLabel self.now a }
+        ensures { result ≡ witnessed (view_of self.now) (wants quantifier) (dominoes_of self.now) a }
+    {
+        for (k, part) in self.base.parts.iter().enumerate() {
+            if let Some(filler) = wanted_of_row(part, quantifier, a, k) {
+                if !self.has_witness(part, quantifier, filler, a) {
+                    return false;
+                }
+            }
+        }
+        true
     }
-    let d = row_defect(set, p, role, a);
-    if d != 0 {
-        return d;
+
+    // The first of the conditions 4 and 5 that the left label a fails.
+    pub fn row_defect(&self, a: usize) -> Option<Condition>
+        requires { IsLabel self.now a }
+        ensures { defect_number result ≡ row_defect_lem (view_of self.now) (dominoes_of self.now) a }
+    {
+        if !self.witnessed(Quantifier::Exists, a) {
+            return Some(Condition::DelEx);
+        }
+        if !self.witnessed(Quantifier::Forall, a) {
+            return Some(Condition::DelUni);
+        }
+        None
     }
-    let matched = bitset::member(set, index(c, l, b, inverse(l, r), a));
-    if matched { 0 } else { 6 }
+
+    // The first condition that the domino (a, r, b) fails.
+    fn domino_defect(&self, a: usize, r: usize, b: usize) -> Option<Condition>
+        requires { IsDomino self.now a r b }
+        ensures { defect_number result ≡ defect (view_of self.now) (dominoes_of self.now) a r b }
+    {
+        if !is_good(self.base, a) {
+            return Some(Condition::Kb);
+        }
+        if !right_fits(self.base, Quantifier::Exists, a, r, b) {
+            return Some(Condition::Ex);
+        }
+        if !right_fits(self.base, Quantifier::Forall, a, r, b) {
+            return Some(Condition::Uni);
+        }
+        let row = self.row_defect(a);
+        let converse = index(self.base.size, b, inverse(self.base.size.roles, r), a);
+        let sym = (!bitset::member(self.set, converse)).then_some(Condition::Sym);
+        row.or(sym)
+    }
+
+    // The first condition that the domino n fails.
+    pub fn defect(&self, n: usize) -> Option<Condition>
+        requires { IsNumber self.now n }
+        ensures { defect_number result ≡ defect_at (view_of self.now) (look self.now.set.now) n }
+    {
+        let a = left_of(self.base.size, n);
+        let r = roles_of(self.base.size, n);
+        let b = right_of(self.base.size, n);
+        self.domino_defect(a, r, b)
+    }
 }

@@ -1,7 +1,9 @@
-// The numbers of dominoes (a, r, b), for c parts and l roles, by shifts.
+// The numbers of dominoes (a, r, b), by shifts. Functions and no methods, since Size is the reader's.
 ghost use Rattle.std.specs.Prelude.{◌≡◌, ◌+◌, ◌*◌, ◌^◌, ◌<◌, ◌≤◌};
 ghost use Rattle.bitset.specs.Bits.{words_for_lem};
 ghost use Rattle.semantics.specs.Dominoes.{total, number, left_of, roles_of, right_of_lem, inverse, Domino};
+
+use tbox::base::Size;
 
 // 2 to the k.
 pub fn pow(k: usize) -> usize
@@ -11,33 +13,55 @@ pub fn pow(k: usize) -> usize
     1usize << k
 }
 
+// How many labels there are, how many role sets, how many dominoes with one left label, and how many dominoes.
+pub fn labels(size: Size) -> usize
+    ensures { result ≡ 2 ^ size.parts }
+{
+    pow(size.parts)
+}
+
+pub fn role_sets(size: Size) -> usize
+    ensures { result ≡ 2 ^ (2 * size.roles) }
+{
+    pow(size.roles + size.roles)
+}
+
+pub fn row_size(size: Size) -> usize
+    ensures { result ≡ 2 ^ (2 * size.roles + size.parts) }
+{
+    pow(size.roles + size.roles + size.parts)
+}
+
+pub fn dominoes(size: Size) -> usize
+    ensures { result ≡ total size.parts size.roles }
+{
+    pow(size.parts + size.roles + size.parts + size.roles)
+}
+
 // The number of the domino (a, r, b).
-pub fn index(c: usize, l: usize, a: usize, r: usize, b: usize) -> usize
-    requires { (c + l ≤ 12) × Domino c l a r b }
-    ensures { result ≡ number c l a r b }
+pub fn index(size: Size, a: usize, r: usize, b: usize) -> usize
+    requires { Domino size.parts size.roles a r b }
+    ensures { result ≡ number size.parts size.roles a r b }
 {
-    (a << (l + l + c)) + (r << c) + b
+    (a << (size.roles + size.roles + size.parts)) + (r << size.parts) + b
 }
 
-pub fn left_of(c: usize, l: usize, n: usize) -> usize
-    requires { c + l ≤ 12 }
-    ensures { result ≡ left_of c l n }
+pub fn left_of(size: Size, n: usize) -> usize
+    ensures { result ≡ left_of size.parts size.roles n }
 {
-    n >> (l + l + c)
+    n >> (size.roles + size.roles + size.parts)
 }
 
-pub fn roles_of(c: usize, l: usize, n: usize) -> usize
-    requires { c + l ≤ 12 }
-    ensures { result ≡ roles_of c l n }
+pub fn roles_of(size: Size, n: usize) -> usize
+    ensures { result ≡ roles_of size.parts size.roles n }
 {
-    (n >> c) & (pow(l + l) - 1)
+    (n >> size.parts) & (role_sets(size) - 1)
 }
 
-pub fn right_of(c: usize, n: usize) -> usize
-    requires { c ≤ 12 }
-    ensures { result ≡ right_of_lem c n }
+pub fn right_of(size: Size, n: usize) -> usize
+    ensures { result ≡ right_of_lem size.parts n }
 {
-    n & (pow(c) - 1)
+    n & (labels(size) - 1)
 }
 
 // Each role for its inverse, for at most four roles: the bits 2k and 2k + 1 change places.
@@ -49,9 +73,8 @@ pub fn inverse(l: usize, r: usize) -> usize
 }
 
 // The words that hold a set of dominoes.
-pub fn words_for(c: usize, l: usize) -> usize
-    requires { c + l ≤ 12 }
-    ensures { result ≡ words_for_lem (total c l) }
+pub fn words_for(size: Size) -> usize
+    ensures { result ≡ words_for_lem (total size.parts size.roles) }
 {
-    bitset::words_for(c + l + c + l)
+    bitset::words_for(size.parts + size.roles + size.parts + size.roles)
 }

@@ -1,4 +1,4 @@
 pub mod Dropping
-pub mod MaskWords
 pub mod MaskBits
+pub mod MaskWords
 pub mod Opened

@@ -1,8 +1,7 @@
 -- Laws of Passed: a member stays or goes, adjacent ranges join.
 use mathlib.Core.Path.{◌≡◌, refl, sym as flip, ap, subst, subst₂, ◌∙◌}
-use mathlib.Core.Bool.{Bool, true, false, false≢true}
+use mathlib.Core.Bool.{Bool, true, false, false≢true, ◌||◌, or-true, or-false}
 use mathlib.Core.List.{List}
-use mathlib.Core.Logic.{◌⊎◌, inl, inr}
 use Prim.Native.Nat.{ℕ, ◌+◌, ◌*◌, ◌≤◌, ◌<◌}
 use native.Mathlib.Nat.{le_refl}
 use native.Mathlib.Omega.{arith}
@@ -39,8 +38,8 @@ module _ (v : View) (test : Set → ℕ → Bool) where
   unfolding Empty
   pass_empty a e ws z = pass_idle a e ws (λ n h l t u. T_of (z n h l) t)
 
-  pub pass-none : (a : ℕ) (ws : List ℕ) → Passed v test a a ws ws false
-  pass-none a ws = pass_idle a a ws (λ n h l. absurd (omega arith))
+  pub pass-none : (a e : ℕ) (ws : List ℕ) → a ≡ e → Passed v test a e ws ws false
+  pass-none a e ws q = pass_idle a e ws (λ n h l. absurd (omega arith))
 
   module _ (a n : ℕ) (ws vs : List ℕ) (b : Bool) (k : Passed v test a n ws vs b) where
     -- the next number is out, or passes the test
@@ -107,12 +106,10 @@ module _ (v : View) (test : Set → ℕ → Bool) where
           fewer = λ q. subst (λ (x : List ℕ). size (dominoes v) (look x) < size (dominoes v) (look ws)) (flip s) (j.fewer q);
         }
 
-    -- the next range: r says whether anything went there, d what is carried on
-    pub pass_on : (r d : Bool) → Passed v test e g vs us r → ((r ≡ true) × (d ≡ true)) ⊎ ((r ≡ false) × (d ≡ b)) → Passed v test a g ws us d
-    pass_on r d k (inl w) =
-        subst (λ (x : Bool). Passed v test a g ws us x) (flip w.1) (pass_moved (subst (λ (x : Bool). Passed v test e g vs us x) w.0 k))
-    pass_on r d k (inr w) =
-        subst (λ (x : Bool). Passed v test a g ws us x) (flip w.1) (pass-still (subst (λ (x : Bool). Passed v test e g vs us x) w.0 k))
+    -- the next range: r says whether anything went there
+    pub pass_on : (r : Bool) → Passed v test e g vs us r → Passed v test a g ws us (b || r)
+    pass_on true k = rw or-true (pass_moved k)
+    pass_on false k = rw or-false (pass-still k)
 
   -- the same range, written otherwise
   pub pass-at : (a b d e : ℕ) (ws vs : List ℕ) (m : Bool) → a ≡ b → d ≡ e → Passed v test a d ws vs m → Passed v test b e ws vs m

@@ -1,9 +1,9 @@
 -- The sweep of a row is a step of Passed: a row without its witnesses goes, in another each domino is matched; and where a sweep
 -- changes nothing, what is left is what settling leaves.
 use mathlib.Core.Path.{◌≡◌, refl, sym as flip, ap, subst, subst₂, ◌∙◌}
-use mathlib.Core.Bool.{Bool, true, false, not, ◌&&◌, cond, false≢true}
+use mathlib.Core.Bool.{Bool, true, false, not, ◌&&◌, ◌||◌, cond, false≢true}
 use mathlib.Core.List.{List}
-use Prim.Native.Nat.{ℕ, ◌+◌, ◌^◌, ◌≤◌, ◌<◌}
+use Prim.Native.Nat.{ℕ, ◌+◌, ◌*◌, ◌^◌, ◌≤◌, ◌<◌}
 use native.Mathlib.Omega.{arith}
 use lib.Dec.{T, T_not, not_T}
 use lib.ListN.{length}
@@ -19,10 +19,14 @@ use Rattle.semantics.specs.Dominoes.{Dominoes, number, left_of, roles_of, right_
 use Rattle.semantics.specs.Conditions.{View, kb, delex, deluni, sym, initially, sustained, dominoes, initial, lacks, defective}
 use Rattle.semantics.proofs.Defects.{defective_monotone}
 use Rattle.domino_conditions.specs.Polarity.{row_defect_lem}
-use Rattle.domino_settling.specs.Sweeps.{unmatched, Passed, Swept}
-use Rattle.domino_conditions.proofs.Rows.{row_le, left_in_row, row_end}
+use Rattle.domino_settling.specs.Sweeps.{unmatched, Passed, Swept, Stays, SweptFrom, SweptRow, SweptOnce, SweptAll, row_of}
+use Rattle.domino_settling.specs.declared.settling.Sweep.{Sweep}
+use Rattle.domino_conditions.specs.Tables.{condition_number, view}
+use Rattle.domino_conditions.specs.declared.conditions.Condition.{Condition}
+use Rattle.domino_conditions.specs.declared.conditions.Condition.TheVariants.{Kb, Ex, Uni, DelEx, DelUni, Sym}
+use Rattle.domino_conditions.proofs.Rows.{twice, number-zero, row_le, left_in_row, row_end}
 use Rattle.domino_conditions.proofs.Polarity.{witnessed-delex, witnessed-deluni}
-use Rattle.domino_settling.proofs.Passed.{pass_idle, pass_empty, pass-at}
+use Rattle.domino_settling.proofs.Passed.{pass-none, pass_idle, pass_empty, pass_on, pass-at}
 
 -- ---- the witnesses of a row
 
@@ -63,13 +67,30 @@ row-unmatched v S n a e f =
     none_first (delex v D A) (deluni v D A) (sym v D A (roles_of v.parts v.roles n) (right_of_lem v.parts n))
     (flip (row_first_lem v D A) ∙ ap (row_defect_lem v D) e ∙ f)
 
+-- a condition that fails has a number
+pub fails-number : (k : Condition) (n : ℕ) → condition_number k ≡ n → n ≡ 0 → ⊥
+fails-number Kb n e f = omega arith
+fails-number Ex n e f = omega arith
+fails-number Uni n e f = omega arith
+fails-number DelEx n e f = omega arith
+fails-number DelUni n e f = omega arith
+fails-number Sym n e f = omega arith
+
 -- ---- a row
+
+-- the size of a row as it is written in Rows
+pub row_count : (c l size : ℕ) → size ≡ 2 ^ (2 * l + c) → size ≡ 2 ^ (l + l + c)
+row_count c l size e = e ∙ ap (λ (x : ℕ). 2 ^ (x + c)) (flip (twice l))
+
 module _ (v : View) (a : ℕ) (la : a < 2 ^ v.parts) where
   abbrev pub from : ℕ
   from = number v.parts v.roles a 0 0
 
   abbrev pub upto : ℕ
   upto = number v.parts v.roles (a + 1) 0 0
+
+  row_ends : (at size : ℕ) → at ≡ from → size ≡ 2 ^ (2 * v.roles + v.parts) → at + size ≡ upto
+  row_ends at size e f = row_end v.parts v.roles a at size e (row_count v.parts v.roles size f)
 
   here : (n : ℕ) → from ≤ n → n < upto → left_of v.parts v.roles n ≡ a
   here n h l = left_in_row v.parts v.roles a n h l
@@ -83,10 +104,10 @@ module _ (v : View) (a : ℕ) (la : a < 2 ^ v.parts) where
       false≢true (flip g ∙ ap v.good (flip (here n h l)) ∙ and_l (v.good (left_of v.parts v.roles n)) _ i))
 
   -- none of it is in
-  pub sweep_idle : (ws : List ℕ) (at size : ℕ) → at ≡ from → size ≡ 2 ^ (v.roles + v.roles + v.parts) → Empty at (at + size) ws
+  pub sweep_idle : (ws : List ℕ) (at size : ℕ) → at ≡ from → size ≡ 2 ^ (2 * v.roles + v.parts) → Empty at (at + size) ws
       → Passed v (defective v) from upto ws ws false
   sweep_idle ws at size e f k =
-      pass-at v (defective v) at from (at + size) upto ws ws false e (row_end v.parts v.roles a at size e f)
+      pass-at v (defective v) at from (at + size) upto ws ws false e (row_ends at size e f)
       (pass_empty v (defective v) at (at + size) ws k)
 
   -- a part lacks its witness, so all of it goes
@@ -118,9 +139,9 @@ module _ (v : View) (a : ℕ) (la : a < 2 ^ v.parts) where
     }
 
   pub sweep_clear : (ws vs : List ℕ) (at size : ℕ) (m : Bool) → (row_defect_lem v (numbered v.parts v.roles (look ws)) a ≡ 0 → ⊥) → at ≡ from
-      → size ≡ 2 ^ (v.roles + v.roles + v.parts) → Emptied at (at + size) ws vs m → Passed v (defective v) from upto ws vs m
+      → size ≡ 2 ^ (2 * v.roles + v.parts) → Emptied at (at + size) ws vs m → Passed v (defective v) from upto ws vs m
   sweep_clear ws vs at size m f e g k =
-      cleared ws vs m f (subst₂ (λ (x y : ℕ). Emptied x y ws vs m) e (row_end v.parts v.roles a at size e g) k)
+      cleared ws vs m f (subst₂ (λ (x y : ℕ). Emptied x y ws vs m) e (row_ends at size e g) k)
 
   -- each part has its witness, so what was matched is not defective
   pub sweep_match : (ws vs : List ℕ) (m : Bool) → row_defect_lem v (numbered v.parts v.roles (look ws)) a ≡ 0 → Sub (dominoes v) (look ws) (initial v)
@@ -142,6 +163,35 @@ module _ (v : View) (a : ℕ) (la : a < 2 ^ v.parts) where
     );
     fewer = k.fewer;
   }
+
+-- ---- one row after another
+pub same-set : {b e : ℕ} (s t : Sweep) {m : Bool} → t.set.ghost_name ≡ s.set.ghost_name → t.base ≡ s.base
+    → Passed (view s.base.now) (defective (view s.base.now)) b e s.set.now t.set.now m → SweptFrom b e s t m
+same-set s t j k p = record { stays = record { set = j; base = k }; passed = p }
+
+pub swept-first : (s : Sweep) → SweptFrom 0 (row_of s 0) s s false
+swept-first s = record {
+  stays = record { set = refl; base = refl };
+  passed = pass-none (view s.base.now) (defective (view s.base.now)) 0 (row_of s 0) s.set.now
+      (flip (number-zero s.base.now.size.parts s.base.now.size.roles));
+}
+
+pub stays_on : {s t u : Sweep} → Stays s t → Stays t u → Stays s u
+stays_on j k = record { set = k.set ∙ j.set; base = k.base ∙ j.base }
+
+module _ (s t u : Sweep) (x y : Bool) where
+  pub swept_on : (a : ℕ) → SweptFrom 0 (row_of s a) s t x → SweptRow a t u y → SweptFrom 0 (row_of s (a + 1)) s u (x || y)
+  swept_on a j k = record {
+    stays = stays_on j.stays k.stays;
+    passed = pass_on (view s.base.now) (defective (view s.base.now)) 0 (row_of s a) (row_of s (a + 1)) s.set.now t.set.now u.set.now x j.passed y
+        (subst (λ b. Passed (view b.now) (defective (view b.now)) (number b.now.size.parts b.now.size.roles a 0 0)
+        (number b.now.size.parts b.now.size.roles (a + 1) 0 0) t.set.now u.set.now y) j.stays.base k.passed);
+  }
+
+-- what is left still meets the conditions 1 to 3
+pub still_opened : (v : View) (test : Set → ℕ → Bool) (a e : ℕ) (ws vs : List ℕ) (m : Bool) → Passed v test a e ws vs m
+    → Sub (dominoes v) (look ws) (initial v) → Sub (dominoes v) (look vs) (initial v)
+still_opened v test a e ws vs m k s n h t = s n h (k.within.inside n h t)
 
 -- ---- sweeps one after another
 
@@ -180,3 +230,33 @@ module _ (v : View) where
             (stable-by (dominoes v) (defective v) (look us) (λ n h. (k.still q).1 n (omega arith) h));
         outside = b.outside;
       }
+
+-- the same of a sweep's set
+pub record SweptSome (s t : Sweep) : Type 0 where
+  pub stays : Stays s t
+  pub between : Between (view s.base.now) s.set.now t.set.now
+
+pub some-none : (s : Sweep) → SweptSome s s
+some-none s = record { stays = record { set = refl; base = refl }; between = between_none (view s.base.now) s.set.now }
+
+module _ (s t u : Sweep) {m : Bool} where
+  -- a sweep after others, as one of the knowledge base of the first
+  again : SweptSome s t → SweptOnce t u m
+      → Passed (view s.base.now) (defective (view s.base.now)) 0 (dominoes (view s.base.now)) t.set.now u.set.now m
+  again j k = subst (λ b. Passed (view b.now) (defective (view b.now)) 0 (dominoes (view b.now)) t.set.now u.set.now m) j.stays.base k.passed
+
+  pub some_more : SweptSome s t → SweptOnce t u m → SweptSome s u
+  some_more j k = record {
+    stays = stays_on j.stays k.stays;
+    between = between_more (view s.base.now) _ _ _ _ _ _ _ j.between (again j k);
+  }
+
+  pub some-last : m ≡ false → SweptSome s t → SweptOnce t u m → SweptAll s u
+  some-last q j k = record {
+    stays = stays_on j.stays k.stays;
+    swept = between_last (view s.base.now) _ _ _ _ q j.between (again j k);
+  }
+
+-- the words that are left, written otherwise
+pub swept_as : (v : View) (ws vs us : List ℕ) → us ≡ vs → Swept v ws vs → Swept v ws us
+swept_as v ws vs us e k = rw e k

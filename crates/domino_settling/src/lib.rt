@@ -2,4 +2,5 @@
 #![tactic(auto)]
 
 pub mod judging;
+mod matching;
 pub mod settling;

@@ -1,61 +1,60 @@
 // The evening program: reads one sheet from standard input and prints what judging it with 4,096 words says.
 #![tactic(auto)]
 
-ghost use Rattle.std.specs.Prelude.{◌≤◌, ◌≡◌, length};
-ghost use Rattle.console.specs.Input.{Within};
+ghost use Rattle.std.specs.Prelude.{◌≡◌, ◌≤◌, length, IfOk};
 ghost use Rattle.console.specs.Output.{handed};
-ghost use Rattle.report.specs.Text.{Puts};
 ghost use Rattle.report.specs.Lines.{printed};
 ghost use Rattle.evening.specs.Sheet.{most, answered};
 
-use console::{Input, Printed, complain};
+use arrayvec::ArrayVec;
+use console::{Printed, complain};
+use std::io;
 use std::io::{Read, Stdout};
 
 // Reads the sheet, as much of the input as a sheet may have and one byte more.
-fn read_sheet<R: Read>(from: &mut R, buffer: &mut [u8]) -> Input
+// The length is a clause, not `[u8; 766]`, so that a buffer for more bytes fails a proof and not only a type (`more_read`).
+fn read_sheet<'a, R: Read>(from: &mut R, buffer: &'a mut [u8]) -> io::Result<&'a [u8]>
     requires { length buffer.old ≡ most }
-    ensures { Within result buffer.new }
+    ensures { IfOk result (λ sheet. length sheet.now ≤ most) }
 {
-    console::read_all(from, buffer)
+    let n = console::read_all(from, buffer)?;
+    Ok(&buffer[..n])
 }
 
-// The lines of a sheet, judged with 4,096 words, at the front of the buffer; answers how many bytes.
-fn lines(sheet: &[u8], out: &mut [u8]) -> usize
-    requires { 160 ≤ length out.old }
-    ensures { Puts (printed sheet.now) 0 out.old out.new result }
+// The lines of a sheet, judged with 4,096 words.
+fn lines(sheet: &[u8]) -> ArrayVec<u8, 160>
+    ensures { result.items ≡ printed sheet.now }
 {
     let mut set = [0u64; 4096];
-    report::evening(sheet, &mut set, out)
+    let mut out = ArrayVec::new();
+    report::evening(sheet, &mut set, &mut out);
+    out
 }
 
 // The lines of what was read; none where a read failed.
-fn answer(input: Input, buffer: &[u8], out: &mut [u8]) -> usize
-    requires { Within input buffer.now × (160 ≤ length out.old) }
-    ensures { Puts (answered input buffer.now) 0 out.old out.new result }
+fn answer(input: io::Result<&[u8]>) -> ArrayVec<u8, 160>
+    ensures { result.items ≡ answered input.entry }
 {
     match input {
-        Input::Failed => 0,
-        Input::Got(n) => lines(&buffer[..n], out),
+        Ok(sheet) => lines(sheet),
+        Err(_) => ArrayVec::new(),
     }
 }
 
 // Prints the lines of what was read.
-fn print(stdout: &Stdout, input: Input, buffer: &[u8]) -> Printed
-    requires { Within input buffer.now }
-    ensures { handed result ≡ answered input buffer.now }
+fn print(stdout: &Stdout, input: io::Result<&[u8]>) -> Printed<160>
+    ensures { handed result ≡ answered input.entry }
 {
-    let mut out = [0u8; 160];
-    let n = answer(input, buffer, &mut out);
-    console::print(stdout, out, n)
+    console::print(stdout, answer(input))
 }
 
 // What is read no contract can say, and `main` answers nothing: held by process tests alone.
 fn main(rt: HostRuntime) {
     let mut buffer = [0u8; 766];
     let input = read_sheet(&mut rt.stdin(), &mut buffer);
-    let printed = print(&rt.stdout(), input, &buffer);
+    let printed = print(&rt.stdout(), input);
     let stderr = rt.stderr();
-    if let Input::Failed = input {
+    if input.is_err() {
         complain(&stderr, b"evening: standard input cannot be read\n");
     }
     if !printed.whole {

@@ -1,62 +1,64 @@
--- Laws of the search for a part alike: what a part's word tells, and the loop over the parts.
-use Prim.Native.Nat.{ℕ, zero, suc, ◌+◌, ◌-◌, ◌/◌, ◌%◌, ◌≤◌, ◌<◌}
-use native.Mathlib.Omega.{arith}
-use native.Mathlib.Decide.{ℕ_discrete}
-use mathlib.Core.Path.{◌≡◌, refl, sym, ap, ◌∙◌}
-use mathlib.Core.Bool.{Bool, true, false, ◌&&◌}
+-- Laws of the search for a part alike: what the tests of a part tell.
+use Rattle.std.proofs.Common.{ℕ, suc, ◌+◌, [], ◌∷◌, cond, ◌≡◌, ◌⊎◌, inl, inr, Bool, true, false, ◌&&◌, List, Option, Some, None, refl, sym, ap, ◌∙◌, arith}
+use mathlib.Core.Bool.{false≢true}
+use borrow.Author.Tests.{eqb-true, eq-eqb}
+use denote.Enum.Bare.{sameb}
 use mathlib.Core.Option.{some}
-use mathlib.Core.List.{List}
-use lib.ListN.{length, get_or}
-use Rattle.records.specs.declared.Entry.{Entry}
-use Rattle.records.specs.Scan.{record_at_lem}
-use Rattle.syntax.specs.Concepts.{Role, role_below}
-use Rattle.syntax.specs.Normal.{Tag}
-use Rattle.syntax.specs.Flatten.{Atom, everything, nothing, name_a, Filler, atomic, fresh, Part, name_p, fresh_p, exists_p, forall_p, same_role_lem, same_filler, like_exists, like_forall, alike, part_at}
-use Rattle.syntax.specs.Answers.{odd_no}
-use Rattle.syntax.specs.Parts.{kind_of}
-use Rattle.flattening.specs.PartTable.{AtomIs, part_word_lem, filler_word, FillerAt, Restricts, Stands, Stood, restriction}
-use Rattle.flattening.specs.AlikeParts.{Told, Sought, FirstAlike}
-use Rattle.syntax.proofs.Alike.{filler_same, same_filler_lem, find_first, find_none}
-use Rattle.flattening.proofs.NormalForms.{atom-some}
-use Rattle.flattening.proofs.PartWords.{flag-low, word_number, word-filler, stand-kind}
+use Rattle.std.specs.Option.{option_eq}
+use Rattle.std.specs.List.{position_from}
+use Rattle.records.specs.Entries.{Entry}
+use Rattle.syntax.specs.Concepts.{Role as RoleTree}
+use Rattle.syntax.specs.Normal.{Tag, tag, Nf}
+use Rattle.syntax.specs.Flatten.{Filler, atomic, name_p, fresh_p, same_role_lem, same_atom, same_filler, like_exists, like_forall, alike, find_from, shared}
+use Rattle.flattening.specs.Origins.{atom_is, filler_at, role_of, restriction, part_of, parts_from}
+use Rattle.flattening.specs.AlikeParts.{place_found, Told, FoundAlike}
+use Rattle.flattening.specs.contracts.parts.AtomPartialEq.TheImpl.{eq-value}
+use Rattle.flattening.specs.contracts.parts.Quantifier.{the_type as quantifiers}
+use Rattle.flattening.specs.declared.parts.Atom.{Atom}
+use Rattle.flattening.specs.declared.parts.Atom.TheVariants.{Everything, Nothing, Name as NameAtom}
+use Rattle.flattening.specs.declared.parts.Quantifier.{Quantifier}
+use Rattle.flattening.specs.declared.parts.Quantifier.TheVariants.{Exists, Forall}
+use Rattle.flattening.specs.declared.parts.Source.{Source}
+use Rattle.flattening.specs.declared.parts.Origin.{Origin}
+use Rattle.flattening.specs.declared.parts.Origin.TheVariants.{Name, Fresh, Restriction}
+use Rattle.syntax.proofs.Alike.{filler_same, same_filler_lem}
 
--- ---- a filler by its number
+-- ---- a filler
 
-module _ (a : Atom) (n : ℕ) (i : AtomIs (some a) n) where
-  -- it is this atom's exactly if the filler is the atom
-  filler-is : (k : ℕ) (d : Filler) → FillerAt k d → filler_word d ≡ n → d ≡ atomic a
-  filler-is k (fresh j) h e = absurd (atom-some i (sym e))
-  filler-is k (atomic b) h e = ap atomic (same b a (e ∙ i.is) (low b h) (λ t q. i.byte t (ap some q)))
-    where
-      low : (b : Atom) → FillerAt k (atomic b) → (t : ℕ) → b ≡ name_a t → t < 256
-      low everything h t q = let z : ◌≡◌ {A = ℕ} 0 1 = cc in absurd (omega arith)
-      low nothing h t q = let z : ◌≡◌ {A = ℕ} 0 1 = cc in absurd (omega arith)
-      low (name_a s) h t q = let z : s ≡ t = cc in omega arith
+pub atoms_same : (a : Option Atom) (b : Atom) → true ≡ option_eq (eq-value).it a (Some b) → a ≡ Some b
+atoms_same None b e = absurd (false≢true (sym e))
+atoms_same (Some Everything) Everything e = refl
+atoms_same (Some Everything) Nothing e = absurd (false≢true (sym e))
+atoms_same (Some Everything) (NameAtom t) e = absurd (false≢true (sym e))
+atoms_same (Some Nothing) Everything e = absurd (false≢true (sym e))
+atoms_same (Some Nothing) Nothing e = refl
+atoms_same (Some Nothing) (NameAtom t) e = absurd (false≢true (sym e))
+atoms_same (Some (NameAtom s)) Everything e = absurd (false≢true (sym e))
+atoms_same (Some (NameAtom s)) Nothing e = absurd (false≢true (sym e))
+atoms_same (Some (NameAtom s)) (NameAtom t) e = ap (λ (n : ℕ). Some (NameAtom n)) (eqb-true s t (sym e))
 
-      same : (b a : Atom) → filler_word (atomic b) ≡ filler_word (atomic a) → ((t : ℕ) → b ≡ name_a t → t < 256) → ((t : ℕ) → a ≡ name_a t → t < 256) → b ≡ a
-      same everything everything e l m = refl
-      same everything nothing e l m = absurd (omega arith)
-      same everything (name_a t) e l m = absurd (omega (arith, m t refl))
-      same nothing everything e l m = absurd (omega arith)
-      same nothing nothing e l m = refl
-      same nothing (name_a t) e l m = absurd (omega (arith, m t refl))
-      same (name_a s) everything e l m = absurd (omega (arith, l s refl))
-      same (name_a s) nothing e l m = absurd (omega (arith, l s refl))
-      same (name_a s) (name_a t) e l m = ap name_a e
+same_atoms : (b : Atom) → option_eq (eq-value).it (Some b) (Some b) ≡ true
+same_atoms Everything = refl
+same_atoms Nothing = refl
+same_atoms (NameAtom t) = eq-eqb t t refl
 
-  is-filler : (d : Filler) → d ≡ atomic a → filler_word d ≡ n
-  is-filler d e = ap filler_word e ∙ sym i.is
+atoms_apart : (a : Option Atom) (b : Atom) → false ≡ option_eq (eq-value).it a (Some b) → a ≡ Some b → ⊥
+atoms_apart a b e q = false≢true (e ∙ rw q (same_atoms b))
 
--- ---- a part by its word
+-- the filler of a part is an atom only where it is this atom
+filler_is : (k : ℕ) (a : Option Atom) (b : Atom) → filler_at k a ≡ atomic (atom_is b) → a ≡ Some b
+filler_is k None b e = cc
+filler_is k (Some Everything) Everything e = refl
+filler_is k (Some Everything) Nothing e = cc
+filler_is k (Some Everything) (NameAtom t) e = cc
+filler_is k (Some Nothing) Everything e = cc
+filler_is k (Some Nothing) Nothing e = refl
+filler_is k (Some Nothing) (NameAtom t) e = cc
+filler_is k (Some (NameAtom s)) Everything e = cc
+filler_is k (Some (NameAtom s)) Nothing e = cc
+filler_is k (Some (NameAtom s)) (NameAtom t) e = let q : s ≡ t = cc in ap (λ (n : ℕ). Some (NameAtom n)) q
 
--- two kinds of restrictions
-pub two_kinds : (P : ℕ → Type 0) → P 2 → P 3 → (k : ℕ) → 2 ≤ k → k < 4 → P k
-two_kinds P a b k l h = go (k - 2) (omega arith)
-  where
-    go : (n : ℕ) → k ≡ 2 + n → P k
-    go zero q = rw q a
-    go (suc zero) q = rw q b
-    go (suc (suc n)) q = absurd (omega arith)
+-- ---- a part
 
 unless : (a b : Bool) → (b ≡ true → ⊥) → false ≡ a && b
 unless true true n = absurd (n refl)
@@ -67,108 +69,103 @@ also : (a b : Bool) → b ≡ true → a ≡ a && b
 also true b e = sym e
 also false b e = refl
 
-module _ (es : List Entry) (k x : ℕ) (g : Tag) (u : Role) (a : Atom) (n : ℕ) (i : AtomIs (some a) n) where
-  -- a restriction by its word: another filler, or this filler and a role
-  module _ (kind : ℕ) (h : Tag) (v : Role) (d : Filler) (kk : kind < 4) (xx : x ≡ part_word_lem kind (odd_no h) h.source (filler_word d)) (r : Restricts es k h v d) where
-    code : x / 2048 ≡ filler_word d
-    code = word-filler x kind (odd_no h) h.source (filler_word d) xx kk (flag-low h.odd) r.byte
+-- no restriction
+name_apart : (q : Quantifier) (g : Tag) (u : RoleTree) (f : Filler) (t : ℕ) → false ≡ alike (restriction q g u f) (name_p t)
+unfolding alike like_exists like_forall
+name_apart Exists g u f t = refl
+name_apart Forall g u f t = refl
 
-    other : (x / 2048 ≡ n → ⊥) → false ≡ same_role_lem u v && same_filler (atomic a) d
-    other m = unless (same_role_lem u v) (same_filler (atomic a) d) (λ e. m (code ∙ is-filler a n i d (filler_same a d e)))
+fresh_apart : (q : Quantifier) (g : Tag) (u : RoleTree) (f : Filler) (h : Tag) (c : Nf) → false ≡ alike (restriction q g u f) (fresh_p h c)
+unfolding alike like_exists like_forall
+fresh_apart Exists g u f h c = refl
+fresh_apart Forall g u f h c = refl
 
-    this : (b : Bool) → x / 2048 ≡ n → b ≡ same_role_lem u (role_below es (x / 8 % 256) (record_at_lem es (x / 8 % 256)).first) →
-        b ≡ same_role_lem u v && same_filler (atomic a) d
-    this b e s =
-        let o : x / 8 % 256 ≡ h.source = word_number x kind (odd_no h) h.source (filler_word d) xx kk (flag-low h.odd) r.byte in
-        let w : v ≡ role_below es (x / 8 % 256) (record_at_lem es (x / 8 % 256)).first = r.role ∙ rw o in
-        (rw (← w) at s) ∙ also (same_role_lem u v) (same_filler (atomic a) d) (same_filler_lem a d (filler-is a n i k d r.filler (sym code ∙ e)))
+-- restrictions of one kind, and of two
+like_kind : (q : Quantifier) (g : Tag) (u : RoleTree) (f : Filler) (h : Tag) (v : RoleTree) (d : Filler) →
+    alike (restriction q g u f) (restriction q h v d) ≡ same_role_lem u v && same_filler f d
+unfolding alike like_exists like_forall
+like_kind Exists g u f h v d = refl
+like_kind Forall g u f h v d = refl
 
-  module _ (kind : ℕ) (low : 2 ≤ kind) (high : kind < 4) where
-    -- another kind
-    pub kind_apart : (q : Part) → Stands es k x q → (x % 4 ≡ kind → ⊥) → false ≡ alike (restriction kind g u (atomic a)) q
-    unfolding alike like_exists like_forall kind_of
-    kind_apart q s = two_kinds (λ kind. (x % 4 ≡ kind → ⊥) → false ≡ alike (restriction kind g u (atomic a)) q) (two q s) (three q s) kind low high
-      where
-        two : (q : Part) → Stands es k x q → (x % 4 ≡ 2 → ⊥) → false ≡ like_exists u (atomic a) q
-        two (name_p t) s m = refl
-        two (fresh_p h c) s m = refl
-        two (exists_p h v d) s m = absurd (m (stand-kind es k x (exists_p h v d) s))
-        two (forall_p h v d) s m = refl
+kinds_apart : (k q : Quantifier) (g : Tag) (u : RoleTree) (f : Filler) (h : Tag) (v : RoleTree) (d : Filler) → false ≡ sameb quantifiers k q →
+    false ≡ alike (restriction q g u f) (restriction k h v d)
+unfolding alike like_exists like_forall
+kinds_apart Exists Exists g u f h v d e = absurd (false≢true e)
+kinds_apart Exists Forall g u f h v d e = refl
+kinds_apart Forall Exists g u f h v d e = refl
+kinds_apart Forall Forall g u f h v d e = absurd (false≢true e)
 
-        three : (q : Part) → Stands es k x q → (x % 4 ≡ 3 → ⊥) → false ≡ like_forall u (atomic a) q
-        three (name_p t) s m = refl
-        three (fresh_p h c) s m = refl
-        three (exists_p h v d) s m = refl
-        three (forall_p h v d) s m = absurd (m (stand-kind es k x (forall_p h v d) s))
+kinds_same : (k q : Quantifier) → true ≡ sameb quantifiers k q → k ≡ q
+kinds_same Exists Exists e = refl
+kinds_same Exists Forall e = absurd (false≢true (sym e))
+kinds_same Forall Exists e = absurd (false≢true (sym e))
+kinds_same Forall Forall e = refl
 
-    -- another filler
-    pub filler_apart : (q : Part) → Stands es k x q → (x / 2048 ≡ n → ⊥) → false ≡ alike (restriction kind g u (atomic a)) q
-    unfolding alike like_exists like_forall
-    filler_apart q s m = two_kinds (λ kind. false ≡ alike (restriction kind g u (atomic a)) q) (two q s) (three q s) kind low high
-      where
-        two : (q : Part) → Stands es k x q → false ≡ like_exists u (atomic a) q
-        two (name_p t) s = refl
-        two (fresh_p h c) s = refl
-        two (exists_p h v d) s = other 2 h v d (omega arith) s.0 s.1 m
-        two (forall_p h v d) s = refl
+module _ (es : List Entry) (q : Quantifier) (u : RoleTree) (b : Atom) (o : Origin) where
+  pub told_none : ((t : ℕ) × o ≡ Name t) ⊎ ((s : Source) × o ≡ Fresh s) → Told es o q u b false
+  told_none (inl (t, e)) = λ k g. rw e (name_apart q g u _ t)
+  told_none (inr (s, e)) = λ k g. rw e (fresh_apart q g u _ _ _)
 
-        three : (q : Part) → Stands es k x q → false ≡ like_forall u (atomic a) q
-        three (name_p t) s = refl
-        three (fresh_p h c) s = refl
-        three (exists_p h v d) s = refl
-        three (forall_p h v d) s = other 3 h v d (omega arith) s.0 s.1 m
+  module _ (kind : Quantifier) (s : Source) (a : Option Atom) (e : o ≡ Restriction kind s a) where
+    -- another quantifier
+    pub told_kind : false ≡ sameb quantifiers kind q → Told es o q u b false
+    told_kind n = λ k g. rw e (kinds_apart kind q g u _ _ _ _ n)
 
-    -- this kind and this filler: its role decides
-    pub role_decides : (q : Part) (b : Bool) (r : Entry) → Stands es k x q → x % 4 ≡ kind → x / 2048 ≡ n → r ≡ record_at_lem es (x / 8 % 256) →
-        b ≡ same_role_lem u (role_below es (x / 8 % 256) r.first) → b ≡ alike (restriction kind g u (atomic a)) q
-    unfolding alike like_exists like_forall kind_of
-    role_decides q b r s o e rr ff =
-        two_kinds (λ kind. x % 4 ≡ kind → b ≡ alike (restriction kind g u (atomic a)) q) (two q s) (three q s) kind low high o
-      where
-        f : b ≡ same_role_lem u (role_below es (x / 8 % 256) (record_at_lem es (x / 8 % 256)).first)
-        f = ff ∙ ap (λ (z : Entry). same_role_lem u (role_below es (x / 8 % 256) z.first)) rr
+    module _ (same : true ≡ sameb quantifiers kind q) where
+      by_kind : (k : ℕ) (g : Tag) (r : Bool) → r ≡ same_role_lem u (role_of es s) && same_filler (atomic (atom_is b)) (filler_at k a) →
+          r ≡ alike (restriction q g u (atomic (atom_is b))) (part_of es k o)
+      by_kind k g r p = rw (e, kinds_same kind q same, like_kind q) p
 
-        two : (q : Part) → Stands es k x q → x % 4 ≡ 2 → b ≡ like_exists u (atomic a) q
-        two (name_p t) s o = absurd (omega (arith, stand-kind es k x (name_p t) s))
-        two (fresh_p h c) s o = absurd (omega (arith, stand-kind es k x (fresh_p h c) s))
-        two (exists_p h v d) s o = this 2 h v d (omega arith) s.0 s.1 b e f
-        two (forall_p h v d) s o = absurd (omega (arith, stand-kind es k x (forall_p h v d) s))
+      -- another filler
+      pub told_filler : false ≡ option_eq (eq-value).it a (Some b) → Told es o q u b false
+      told_filler n =
+          λ k g. by_kind k g false (unless (same_role_lem u (role_of es s)) (same_filler (atomic (atom_is b)) (filler_at k a))
+          (λ y. atoms_apart a b n (filler_is k a b (filler_same (atom_is b) (filler_at k a) y))))
 
-        three : (q : Part) → Stands es k x q → x % 4 ≡ 3 → b ≡ like_forall u (atomic a) q
-        three (name_p t) s o = absurd (omega (arith, stand-kind es k x (name_p t) s))
-        three (fresh_p h c) s o = absurd (omega (arith, stand-kind es k x (fresh_p h c) s))
-        three (exists_p h v d) s o = absurd (omega (arith, stand-kind es k x (exists_p h v d) s))
-        three (forall_p h v d) s o = this 3 h v d (omega arith) s.0 s.1 b e f
+      -- this filler: its role decides
+      pub told_role : true ≡ option_eq (eq-value).it a (Some b) → (r : Bool) → r ≡ same_role_lem u (role_of es s) → Told es o q u b r
+      told_role n r p =
+          λ k g. by_kind k g r (p ∙ also (same_role_lem u (role_of es s)) (same_filler (atomic (atom_is b)) (filler_at k a))
+          (same_filler_lem (atom_is b) (filler_at k a) (ap (λ (x : Option Atom). filler_at k x) (atoms_same a b n))))
 
--- ---- the loop: none of the first j parts is alike
+-- ---- all parts
 
-abbrev pub NoneBefore : ℕ → List Part → Part → Type 0
-NoneBefore j so p = (i : ℕ) → i < j → alike p (part_at so i) ≡ false
+-- whether a part is alike does not hang on its number, nor on a tag
+like_any : (es : List Entry) (q : Quantifier) (u : RoleTree) (b : Atom) (g h : Tag) (k l : ℕ) (o : Origin) →
+    alike (restriction q g u (atomic (atom_is b))) (part_of es k o) ≡ alike (restriction q h u (atomic (atom_is b))) (part_of es l o)
+unfolding alike like_exists like_forall same_filler same_atom
+like_any es Exists u b g h k l (Name t) = refl
+like_any es Forall u b g h k l (Name t) = refl
+like_any es Exists u b g h k l (Fresh s) = refl
+like_any es Forall u b g h k l (Fresh s) = refl
+like_any es Exists u b g h k l (Restriction Exists s None) = refl
+like_any es Exists u b g h k l (Restriction Exists s (Some a)) = refl
+like_any es Exists u b g h k l (Restriction Forall s a) = refl
+like_any es Forall u b g h k l (Restriction Exists s a) = refl
+like_any es Forall u b g h k l (Restriction Forall s None) = refl
+like_any es Forall u b g h k l (Restriction Forall s (Some a)) = refl
 
-module _ {es : List Entry} {table : List ℕ} {n kind : ℕ} {u : Role} {m : ℕ} where
-  pub sought_start : Sought es table n kind u m (NoneBefore 0)
-  sought_start = record { holds = λ so l st g a i j h. absurd (omega arith) }
+-- the test of a part
+abbrev pub is_like : List Entry → Quantifier → RoleTree → Atom → Origin → Bool
+is_like es q u b o = alike (restriction q (tag 0 false 0) u (atomic (atom_is b))) (part_of es 0 o)
 
-  pub sought_next : {j : ℕ} → j < n → Told es (get_or table j 0) kind u m false → Sought es table n kind u m (NoneBefore j) →
-      Sought es table n kind u m (NoneBefore (j + 1))
-  sought_next {j} lt t s = record { holds = λ so l st g a i k h. at so l st g a i k h (ℕ_discrete k j) }
-    where
-      at : (so : List Part) → length so ≡ n → Stood es table so → (g : Tag) (a : Atom) → AtomIs (some a) m → (k : ℕ) → k < j + 1 → Dec (k ≡ j) →
-          alike (restriction kind g u (atomic a)) (part_at so k) ≡ false
-      at so l st g a i k h (yes e) = rw e (sym (t.is j (part_at so j) (st j (omega arith)) g a i))
-      at so l st g a i k h (no e) = s.holds so l st g a i k (omega (arith, e))
+pub told_like : (es : List Entry) (q : Quantifier) (u : RoleTree) (b : Atom) (o : Origin) (r : Bool) → Told es o q u b r → r ≡ is_like es q u b o
+told_like es q u b o r t = t 0 (tag 0 false 0)
 
-  pub sought_found : {j : ℕ} → j < n → Told es (get_or table j 0) kind u m true → Sought es table n kind u m (NoneBefore j) →
-      Sought es table n kind u m (FirstAlike n j)
-  sought_found {j} lt t s =
-      record {
-        holds = λ so l st g a i.
-            rw (find_first (restriction kind g u (atomic a)) so j (omega arith) (s.holds so l st g a i)
-            (sym (t.is j (part_at so j) (st j (omega arith)) g a i))) refl;
-      }
+place_from : (es : List Entry) (q : Quantifier) (u : RoleTree) (b : Atom) (g : Tag) (k l : ℕ) → k ≡ l → (os : List Origin) →
+    place_found (position_from (is_like es q u b) k os) ≡ find_from (restriction q g u (atomic (atom_is b))) l (parts_from es l os)
+unfolding find_from parts_from
+place_from es q u b g k l e [] = refl
+place_from es q u b g k l e (o ∷ os) =
+    rw (like_any es q u b g (tag 0 false 0) l 0 o) (at (is_like es q u b o) (place_from es q u b g (k + 1) (suc l) (omega arith) os))
+  where
+    at : (r : Bool) → place_found (position_from (is_like es q u b) (k + 1) os) ≡ find_from (restriction q g u (atomic (atom_is b))) (suc l) (parts_from es (suc l) os) →
+        place_found (cond r (Some k) (position_from (is_like es q u b) (k + 1) os))
+        ≡ cond r (some l) (find_from (restriction q g u (atomic (atom_is b))) (suc l) (parts_from es (suc l) os))
+    at true h = ap some e
+    at false h = h
 
-  pub sought_end : {j : ℕ} → n ≤ j → Sought es table n kind u m (NoneBefore j) → Sought es table n kind u m (FirstAlike n n)
-  sought_end h s =
-      record {
-        holds = λ so l st g a i. rw (find_none (restriction kind g u (atomic a)) so (λ k lt. s.holds so l st g a i k (omega arith))) refl;
-      }
+pub found_alike : (es : List Entry) (q : Quantifier) (u : RoleTree) (b : Atom) (os : List Origin) (r : Option ℕ) →
+    r ≡ position_from (is_like es q u b) 0 os → FoundAlike es os q u b r
+unfolding shared
+found_alike es q u b os r p = λ g. ap place_found p ∙ place_from es q u b g 0 0 refl os

@@ -1,7 +1,8 @@
 pub mod AlikeSearch
 pub mod CodeOrder
+pub mod NodeForms
 pub mod NormalForms
-pub mod PartTables
-pub mod PartWords
+pub mod PartLists
 pub mod QueueParts
 pub mod RoleTrees
+pub mod Walks

@@ -1,44 +1,37 @@
 -- Laws of the code's way through the queue: the parts of the names, of the axioms, and of a fresh part when its turn comes.
-use Prim.Native.Nat.{ℕ, suc, ◌+◌, ◌*◌, ◌/◌, ◌%◌, ◌≤◌, ◌<◌}
-use mathlib.Core.Path.{◌≡◌, refl, ap, ◌∙◌}
-use mathlib.Core.Bool.{Bool}
+use Prim.Native.Nat.{ℕ, zero, suc, ◌+◌, ◌≤◌, ◌<◌}
+use mathlib.Core.Path.{◌≡◌, refl, sym, ap, ◌∙◌}
+use mathlib.Core.Bool.{Bool, true, false, false≢true}
 use mathlib.Core.List.{List, [], ◌∷◌, ◌++◌, append_assoc, append-nil}
-use lib.ListN.{length, get_or, take, drop}
+use lib.ListN.{length, get_or, get_or-eq_default, take, drop, length-append, take-append-drop}
 use lib.Seq.{take_all}
 use native.Mathlib.Omega.{arith}
 use native.Mathlib.Numerals.{add-one}
-use native.Mathlib.Decide.{dec_lt}
-use Rattle.records.specs.declared.Entry.{Entry}
-use Rattle.records.specs.Scan.{record_at_lem}
-use Rattle.syntax.specs.Concepts.{nodes_of, axioms_of, concept_below}
+use Rattle.std.proofs.Common.{Result, Ok, Err, Some, None}
+use Rattle.std.specs.Result.{IsErr}
+use Rattle.arrayvec.specs.ArrayVec.{ArrayVec}
+use Rattle.flattening.specs.declared.parts.TooMany.{TooMany}
+use Rattle.records.specs.Entries.{Entry}
+use Rattle.records.specs.Scan.{record_at_lem, blank}
+use Rattle.records.specs.Nodes.{NodeAt, node_kind}
+use Rattle.records.specs.declared.nodes.Node.{Node}
+use Rattle.records.specs.declared.nodes.Node.TheVariants.{Everything, Nothing, Name as NameNode, Not, And, Or, Exists, Forall, Role, Inverse, RoleNot, RoleAnd, RoleOr, Axiom}
+use Rattle.syntax.specs.Concepts.{Node as Formed, nodes_of, axioms_of, concept_below}
 use Rattle.syntax.specs.Normal.{Nf, or_n, plain, negated, axiom_nf}
-use Rattle.syntax.specs.Flatten.{Part, name_p, fresh_p, exists_p, forall_p, Flat, Pending, whole, guarded, walk_pending_by, shared, name_parts_lem, pendings, flatten, part_at}
+use Rattle.syntax.specs.Flatten.{Part, Flat, Pending, whole, guarded, walk_by, walk_pending_by, shared, name_parts_lem, pendings, flatten, part_at}
+use Rattle.flattening.specs.Trees.{nf_below}
 use Rattle.flattening.specs.Order.{through, turn_of, turns_from, axiom_turn}
-use Rattle.syntax.specs.Answers.{odd_no}
-use Rattle.syntax.specs.Parts.{kind_of}
-use Rattle.records.specs.RecordTable.{flag}
-use Rattle.flattening.specs.PartTable.{nf_below, part_word_lem, Stands, Pushed, Held}
-use Rattle.flattening.specs.Adding.{Adds, AddsAll, AddsTurn}
-use Rattle.syntax.proofs.Trees.{nodes_length, concept_all, axiom_at_lem, axiom_none}
-use Rattle.syntax.proofs.Queue.{Left, left_grows, names-length}
-use Rattle.flattening.proofs.CodeOrder.{left-axioms, left-turn, left_done, through-append}
-use Rattle.flattening.proofs.PartTables.{held_push, held-length, held_longer}
-use Rattle.flattening.proofs.NormalForms.{nf_same}
-use Rattle.flattening.proofs.PartWords.{flag-low, flag_same, word-odd, word_number, stand-kind}
-
--- the parts of the names
-pub names-none : (limit : ℕ) (t : List ℕ) (es : List Entry) → Held limit es t 0 (name_parts_lem 0)
-unfolding name_parts_lem
-names-none limit t es = record { count = omega arith; stand = λ f k i. absurd (omega arith) }
-
--- a name more
-pub names-next : {limit n i word m : ℕ} {t t' : List ℕ} → n ≤ limit → limit ≤ 20 → i ≡ n → word ≡ part_word_lem 0 0 i 0 → Pushed limit t n word t' m →
-    ((es : List Entry) → Held limit es t n (name_parts_lem n)) → (m ≡ n + 1) × ((es : List Entry) → Held limit es t' m (name_parts_lem m))
-unfolding name_parts_lem
-names-next {limit} {n} {i} {word} {m} {t} {t'} h l q e p f =
-    let more : (es : List Entry) → Held limit es t' m (name_parts_lem (suc n)) = λ es. held_push (name_p n) (f es) (e ∙ ap (λ (t : ℕ). part_word_lem 0 0 t 0) q, omega arith) p in
-    let g : m ≡ suc n = omega (arith, (more []).count, names-length (suc n)) in
-    (omega arith, λ es. rw (ap name_parts_lem g) (more es))
+use Rattle.flattening.specs.Origins.{part_of, parts_from, parts_in, parts_made, room}
+use Rattle.flattening.specs.Adding.{Outcome, AddsParts, AddsAxiom, AddsAxioms, AddsTurn, Flattens}
+use Rattle.flattening.specs.declared.parts.Source.{Source}
+use Rattle.flattening.specs.declared.parts.Origin.{Origin}
+use Rattle.flattening.specs.declared.parts.Origin.TheVariants.{Name, Fresh, Restriction}
+use Rattle.flattening.specs.declared.parts.Quantifier.TheVariants.{Exists as OfExists, Forall as OfForall}
+use Rattle.syntax.proofs.Trees.{nodes_length, axiom_at_lem, axiom_none}
+use Rattle.syntax.proofs.Queue.{Left, left_grows, names-length, axioms-append, pendings-append}
+use Rattle.flattening.proofs.CodeOrder.{left-axioms, left-turn, left_done, through-append, pendings-step}
+use Rattle.flattening.proofs.PartLists.{both, adds_nothing, adds_as, adds_over, longer, adds_then, adds_cut, parts_length}
+use Rattle.flattening.proofs.Walks.{parts_by}
 
 -- what record i puts on the queue: its axiom, or nothing
 module _ (es : List Entry) (i : ℕ) (e : Entry) (p : e ≡ record_at_lem es i) where
@@ -54,72 +47,194 @@ module _ (es : List Entry) (i : ℕ) (e : Entry) (p : e ≡ record_at_lem es i) 
 pub pendings-all : (es : List Entry) (i : ℕ) → length es ≤ i → pendings (axioms_of (take i (nodes_of es))) ≡ pendings (axioms_of (nodes_of es))
 pendings-all es i h = rw (take_all i (nodes_of es) (omega (arith, nodes_length es)))
 
--- what part j, with the word x, puts on the queue: its filler if it is fresh, or nothing
-module _ (es : List Entry) (j x : ℕ) where
-  pub turn-fresh : (n : ℕ) (odd : Bool) (p : Part) → length es ≤ n → Stands es j x p → x % 8 ≡ 1 + 4 * flag odd →
-      turn_of j p ≡ guarded j (nf_below odd es n (x / 8 % 256)) ∷ []
-  unfolding turn_of kind_of
-  turn-fresh n odd (name_p t) l s h = absurd (omega (arith, stand-kind es j x (name_p t) s))
-  turn-fresh n odd (fresh_p g c) l s h =
-      let f = word_number x 1 (odd_no g) g.filler 0 s.0 (omega arith) (flag-low g.odd) s.1 in
-      let o : g.odd ≡ odd = flag_same g.odd odd (omega (arith, word-odd x 1 (odd_no g) g.filler 0 s.0 (omega arith) (flag-low g.odd), flag-low odd)) in
-      ap (λ (d : Nf). guarded j d ∷ []) (s.2 ∙ rw (o, f) (nf_same odd es (length es) n g.filler (concept_all es n g.filler l)))
-  turn-fresh n odd (exists_p g u f) l s h = absurd (omega (arith, stand-kind es j x (exists_p g u f) s))
-  turn-fresh n odd (forall_p g u f) l s h = absurd (omega (arith, stand-kind es j x (forall_p g u f) s))
+-- ---- one of the queue
 
-  pub turn_quiet : (p : Part) → Stands es j x p → (x % 8 ≡ 1 → ⊥) → (x % 8 ≡ 5 → ⊥) → turn_of j p ≡ []
-  unfolding turn_of kind_of
-  turn_quiet (name_p t) s a b = refl
-  turn_quiet (fresh_p g c) s a b = absurd (omega (arith, stand-kind es j x (fresh_p g c) s))
-  turn_quiet (exists_p g u f) s a b = refl
-  turn_quiet (forall_p g u f) s a b = refl
+through-whole : (c : Nf) (so : List Part) → through (whole c ∷ []) so ≡ parts_by c so
+unfolding through walk_pending_by
+through-whole c so = append-nil (parts_by c so)
 
--- the queue piece by piece
-module _ (limit : ℕ) (es : List Entry) where
-  pub adds_all_same : (p q : List Pending) (t : List ℕ) (n : ℕ) (t' : List ℕ) (n' : ℕ) → AddsAll limit es p t n t' n' → q ≡ p → AddsAll limit es q t n t' n'
-  adds_all_same p q t n t' n' a e = rw e a
+through-guarded : (k : ℕ) (c : Nf) (so : List Part) → through (guarded k c ∷ []) so ≡ parts_by c so
+unfolding through walk_pending_by
+through-guarded k c so = append-nil (parts_by c so)
 
-  pub adds_nothing : (t : List ℕ) (n : ℕ) → AddsAll limit es [] t n t n
+-- ---- an axiom, or another record
+
+of_kind : (n : Node) → ((a b : ℕ) → n ≡ Axiom a b → ⊥) → node_kind n ≡ 32 → ⊥
+of_kind Everything f k = omega arith
+of_kind Nothing f k = omega arith
+of_kind (NameNode t) f k = omega arith
+of_kind (Not a) f k = omega arith
+of_kind (And a b) f k = omega arith
+of_kind (Or a b) f k = omega arith
+of_kind (Exists a b) f k = omega arith
+of_kind (Forall a b) f k = omega arith
+of_kind (Role r) f k = omega arith
+of_kind (Inverse r) f k = omega arith
+of_kind (RoleNot a) f k = omega arith
+of_kind (RoleAnd a b) f k = omega arith
+of_kind (RoleOr a b) f k = omega arith
+of_kind (Axiom a b) f k = f a b refl
+
+module _ (es : List Entry) (i : ℕ) (os : List Origin) where
+  abbrev axiom_of_lem : List Part → List Part
+  axiom_of_lem = through (axiom_turn (nodes_of es) i)
+
+  pub axiom_past : NodeAt es i None → parts_in es os ≡ parts_in es os ++ axiom_of_lem (parts_in es os)
   unfolding through
-  adds_nothing t n so h = rw append-nil h
+  axiom_past h =
+      adds_nothing es axiom_of_lem os
+      (ap (λ (q : List Pending). through q (parts_in es os)) (axiom_quiet es i (record_at_lem es i) refl (λ k. kind (ap (λ (x : Entry). x.kind) (get_or-eq_default es blank h)) k)))
+    where
+      kind : {k : ℕ} → k ≡ 0 → k ≡ 32 → ⊥
+      kind a b = omega arith
 
-  pub adds_append : (p q : List Pending) (t : List ℕ) (n : ℕ) (t' : List ℕ) (n' : ℕ) (t'' : List ℕ) (n'' : ℕ) →
-      AddsAll limit es p t n t' n' → AddsAll limit es q t' n' t'' n'' → AddsAll limit es (p ++ q) t n t'' n''
-  adds_append p q t n t' n' t'' n'' a b so h = rw (through-append p q so, ← append_assoc so) (b (so ++ through p so) (a so h))
+  module _ (n : Node) (h : NodeAt es i (Some n)) where
+    pub axiom_other : ((a b : ℕ) → n ≡ Axiom a b → ⊥) → parts_in es os ≡ parts_in es os ++ axiom_of_lem (parts_in es os)
+    unfolding through
+    axiom_other f =
+        adds_nothing es axiom_of_lem os
+        (ap (λ (q : List Pending). through q (parts_in es os)) (axiom_quiet es i (record_at_lem es i) refl (λ k. of_kind n f (sym h.1.kind ∙ k))))
 
-  pub adds_whole : (c : Nf) (t : List ℕ) (n : ℕ) (t' : List ℕ) (n' : ℕ) → Adds limit es c t n t' n' → AddsAll limit es (whole c ∷ []) t n t' n'
-  unfolding through walk_pending_by
-  adds_whole c t n t' n' w so h = rw append-nil (w so h)
+    -- (not left) or right
+    module _ (a b : ℕ) (e : n ≡ Axiom a b) where
+      through_axiom : (so : List Part) → axiom_of_lem so ≡ both (parts_by (nf_below true es i a)) (parts_by (nf_below false es i b)) so
+      unfolding walk_by
+      through_axiom so =
+          ap (λ (q : List Pending). through q so) (axiom_turn_lem es i (record_at_lem es i) refl (h.1.kind ∙ ap node_kind e))
+          ∙ through-whole (or_n (negated (concept_below es i (record_at_lem es i).first)) (plain (concept_below es i (record_at_lem es i).second))) so
+          ∙ rw (h.1.first, h.1.second, e) refl
 
-  pub adds_guarded : (j : ℕ) (c : Nf) (t : List ℕ) (n : ℕ) (t' : List ℕ) (n' : ℕ) → Adds limit es c t n t' n' → AddsAll limit es (guarded j c ∷ []) t n t' n'
-  unfolding through walk_pending_by
-  adds_guarded j c t n t' n' w so h = rw append-nil (w so h)
+      pub axiom_adds : (mid after : List Origin) (z : Outcome) →
+          parts_in es mid ≡ parts_in es os ++ parts_by (nf_below true es i a) (parts_in es os) → AddsParts es (nf_below false es i b) mid after z →
+          AddsAxiom es i os after z
+      axiom_adds mid after z d w =
+          adds_as es (both (parts_by (nf_below true es i a)) (parts_by (nf_below false es i b))) os after axiom_of_lem z
+          (through_axiom (parts_in es os)) (adds_then es (parts_by (nf_below true es i a)) (parts_by (nf_below false es i b)) os mid after z d w)
 
--- the loop over the parts: those of the table, and the queue from part j on
-pub record Turning (limit : ℕ) (es : List Entry) (names : ℕ) (table : List ℕ) (n j : ℕ) : Type 0 where
-  pub so : List Part
+      pub axiom_over : (after : List Origin) (z : Outcome) → IsErr z →
+          room < length (parts_in es os ++ parts_by (nf_below true es i a) (parts_in es os)) → AddsAxiom es i os after z
+      axiom_over after z d w =
+          adds_as es (both (parts_by (nf_below true es i a)) (parts_by (nf_below false es i b))) os after axiom_of_lem z
+          (through_axiom (parts_in es os)) (adds_cut es (parts_by (nf_below true es i a)) (parts_by (nf_below false es i b)) os after z d w)
+
+-- ---- a part's turn
+
+pub turn_fresh : (es : List Entry) (j : ℕ) (s : Source) → turn_of j (part_of es j (Fresh s)) ≡ guarded j (nf_below s.odd es (length es) s.filler) ∷ []
+unfolding turn_of
+turn_fresh es j s = refl
+
+-- any other part
+pub turn_quiet : (es : List Entry) (j : ℕ) (o : Origin) → ((s : Source) → o ≡ Fresh s → ⊥) → turn_of j (part_of es j o) ≡ []
+unfolding turn_of
+turn_quiet es j (Name t) n = refl
+turn_quiet es j (Fresh s) n = absurd (n s refl)
+turn_quiet es j (Restriction OfExists s a) n = refl
+turn_quiet es j (Restriction OfForall s a) n = refl
+
+module _ (es : List Entry) (os : List Origin) where
+  pub turn_nothing : (o : Origin) → ((s : Source) → o ≡ Fresh s → ⊥) → (after : List Origin) → after ≡ os → (k : ℕ) →
+      parts_in es after ≡ parts_in es os ++ through (turn_of k (part_of es k o)) (parts_in es os)
+  unfolding through
+  turn_nothing o n after e k =
+      rw e (adds_nothing es (through (turn_of k (part_of es k o))) os (ap (λ (q : List Pending). through q (parts_in es os)) (turn_quiet es k o n)))
+
+  -- its filler, read plainly or under a not
+  pub turn_adds : (o : Origin) (s : Source) → o ≡ Fresh s → (odd : Bool) → s.odd ≡ odd → (after : List Origin) (z : Outcome) →
+      AddsParts es (nf_below odd es (length es) s.filler) os after z → AddsTurn es o os after z
+  turn_adds o s e odd d after z w k =
+      adds_as es (parts_by (nf_below odd es (length es) s.filler)) os after (through (turn_of k (part_of es k o))) z
+      (rw (e, turn_fresh es k s, d) (through-guarded k (nf_below odd es (length es) s.filler) (parts_in es os))) w
+
+-- ---- all axioms
+
+-- those of the first i records
+abbrev pub axioms_to : List Entry → ℕ → List Part → List Part
+axioms_to es i = through (pendings (axioms_of (take i (nodes_of es))))
+
+module _ (es : List Entry) (os : List Origin) where
+  pub axioms_none : parts_in es os ≡ parts_in es os ++ axioms_to es 0 (parts_in es os)
+  unfolding axioms_of pendings through
+  axioms_none = sym (append-nil (parts_in es os))
+
+  module _ (i : ℕ) (mid : List Origin) (e : parts_in es mid ≡ parts_in es os ++ axioms_to es i (parts_in es os)) where
+    next_axiom : parts_in es mid ++ through (axiom_turn (nodes_of es) i) (parts_in es mid) ≡ parts_in es os ++ axioms_to es (i + 1) (parts_in es os)
+    next_axiom =
+        rw (e, pendings-step (nodes_of es) i, through-append, append_assoc) refl
+
+    pub axioms_more : (after : List Origin) → parts_in es after ≡ parts_in es mid ++ through (axiom_turn (nodes_of es) i) (parts_in es mid) →
+        parts_in es after ≡ parts_in es os ++ axioms_to es (i + 1) (parts_in es os)
+    axioms_more after d = d ∙ next_axiom
+
+    pub axioms_over : (after : List Origin) (z : Outcome) → IsErr z →
+        room < length (parts_in es mid ++ through (axiom_turn (nodes_of es) i) (parts_in es mid)) → AddsAxioms es os after z
+    axioms_over after z d w =
+        adds_over es (through (pendings (axioms_of (nodes_of es)))) os after z d
+        (rw (split, through-append) (longer (parts_in es os) (axioms_to es (i + 1) (parts_in es os)) _ (rw next_axiom at w)))
+      where
+        split : pendings (axioms_of (nodes_of es)) ≡ pendings (axioms_of (take (i + 1) (nodes_of es))) ++ pendings (axioms_of (drop (i + 1) (nodes_of es)))
+        split =
+            ap (λ (ns : List Formed). pendings (axioms_of ns)) (sym (take-append-drop (i + 1) (nodes_of es)))
+            ∙ rw (axioms-append, pendings-append) refl
+
+  pub axioms_all : (i : ℕ) → length es ≤ i → (after : List Origin) → parts_in es after ≡ parts_in es os ++ axioms_to es i (parts_in es os) →
+      parts_in es after ≡ parts_in es os ++ through (pendings (axioms_of (nodes_of es))) (parts_in es os)
+  axioms_all i h after e = e ∙ ap (λ (q : List Pending). parts_in es os ++ through q (parts_in es os)) (pendings-all es i h)
+
+-- ---- the loop over the parts
+
+part_at_in : (es : List Entry) (d : Origin) (k l : ℕ) (os : List Origin) (i : ℕ) → k + i ≡ l → i < length os →
+    part_at (parts_from es k os) i ≡ part_of es l (get_or os i d)
+unfolding parts_from
+part_at_in es d k l [] i e h = absurd (omega arith)
+part_at_in es d k l (o ∷ os) zero e h = let q : k ≡ l = omega arith in rw q refl
+part_at_in es d k l (o ∷ os) (suc i) e h = part_at_in es d (suc k) l os i (omega arith) (omega arith)
+
+-- what the loop has come to: the parts that are there, and the queue from part j on
+pub record TurnedTo (es : List Entry) (names : ℕ) (so : List Part) (j : ℕ) : Type 0 where
   pub done : List Flat
-  pub held : Held limit es table n so
   pub left : Left shared (flatten names (axioms_of (nodes_of es))) done (turns_from j (drop j so)) so
 
-module _ (limit : ℕ) (es : List Entry) (names : ℕ) where
-  pub turning_start : (t : List ℕ) (n : ℕ) (t' : List ℕ) (n' : ℕ) → Held limit es t n (name_parts_lem names) →
-      AddsAll limit es (pendings (axioms_of (nodes_of es))) t n t' n' → Turning limit es names t' n' 0
-  turning_start t n t' n' h a = record { so = _; done = _; held = a (name_parts_lem names) h; left = left-axioms names (axioms_of (nodes_of es)) }
+abbrev pub Turning : List Entry → ℕ → List Origin → ℕ → Type 0
+Turning es names os j = TurnedTo es names (parts_in es os) j
 
-  pub turning_next : {t : List ℕ} {n j : ℕ} (t' : List ℕ) (n' : ℕ) → Turning limit es names t n j → j < n → n ≤ limit →
-      AddsTurn limit es (get_or t j 0) t n t' n' → Turning limit es names t' n' (j + 1)
-  turning_next {t} {n} {j} t' n' r i l a =
-      let h : j < length r.so = omega (arith, held-length l r.held) in
-      let f : length r.so ≤ limit = omega (arith, held-length l r.held) in
-      rw add-one (record { so = _; done = _; held = a j (part_at r.so j) (r.held.stand f j h) r.so r.held; left = left-turn j h r.left })
+module _ (es : List Entry) (names : ℕ) where
+  pub flattens_over : (z : Result (ArrayVec Origin) TooMany) → IsErr z → room < length (parts_made names es) → Flattens es names z
+  flattens_over (Ok os) h l = absurd (false≢true h)
+  flattens_over (Err x) h l = l
 
-  pub turning_over : {t : List ℕ} {n j : ℕ} → Turning limit es names t n j → limit < n → Held limit es t n (flatten names (axioms_of (nodes_of es))).parts
-  turning_over r o = held_longer r.held o (left_grows r.left)
+  -- too many names; too many parts of names and axioms
+  names_most : length (name_parts_lem names ++ through (pendings (axioms_of (nodes_of es))) (name_parts_lem names)) ≤ length (parts_made names es)
+  names_most = left_grows (left-axioms names (axioms_of (nodes_of es)))
 
-  pub turning_end : {t : List ℕ} {n j : ℕ} → Turning limit es names t n j → n ≤ j → Held limit es t n (flatten names (axioms_of (nodes_of es))).parts
-  turning_end {t} {n} {j} r l = at (dec_lt limit n)
-    where
-      at : Dec (limit < n) → Held limit es t n (flatten names (axioms_of (nodes_of es))).parts
-      at (yes o) = turning_over r o
-      at (no o) = rw (left_done j r.left (omega (arith, held-length (omega (arith, o)) r.held))).0 r.held
+  pub too-many-names : room < names → room < length (parts_made names es)
+  too-many-names h =
+      omega (arith, names_most, names-length names, length-append (name_parts_lem names) (through (pendings (axioms_of (nodes_of es))) (name_parts_lem names)))
+
+  module _ (os : List Origin) (n : parts_in es os ≡ name_parts_lem names) where
+    pub too_many_axioms : room < length (parts_in es os ++ through (pendings (axioms_of (nodes_of es))) (parts_in es os)) →
+        room < length (parts_made names es)
+    too_many_axioms h = omega (arith, names_most, rw n at h)
+
+    pub turning_start : (after : List Origin) →
+        parts_in es after ≡ parts_in es os ++ through (pendings (axioms_of (nodes_of es))) (parts_in es os) → Turning es names after 0
+    turning_start after e =
+        rw (e, n) (record { done = _; left = left-axioms names (axioms_of (nodes_of es)) })
+
+  module _ (os : List Origin) (j : ℕ) (t : Turning es names os j) where
+    module _ (o d : Origin) (h : j < length os) (g : o ≡ get_or os j d) where
+      taken : TurnedTo es names (parts_in es os ++ through (turn_of j (part_of es j o)) (parts_in es os)) (suc j)
+      taken =
+          let l : j < length (parts_in es os) = omega (arith, parts_length es 0 os) in
+          let w : TurnedTo es names (parts_in es os ++ through (turn_of j (part_at (parts_in es os) j)) (parts_in es os)) (suc j)
+          = record { done = _; left = left-turn j l t.left } in
+          rw (part_at_in es d 0 j os j (omega arith) h, ← g) at w
+
+      pub turning_next : (after : List Origin) → parts_in es after ≡ parts_in es os ++ through (turn_of j (part_of es j o)) (parts_in es os) →
+          Turning es names after (j + 1)
+      turning_next after e = rw (e, add-one) taken
+
+      pub turning_over : room < length (parts_in es os ++ through (turn_of j (part_of es j o)) (parts_in es os)) → room < length (parts_made names es)
+      turning_over w = omega (arith, left_grows taken.left)
+
+    pub turning_end : length os ≤ j → parts_in es os ≡ parts_made names es
+    turning_end h = sym (left_done j t.left (omega (arith, parts_length es 0 os))).0

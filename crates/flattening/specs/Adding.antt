@@ -1,47 +1,64 @@
--- What going through concepts and through the queue adds to the table of parts.
-use Rattle.std.specs.Prelude.{ℕ, ◌≤◌, ◌<◌, ◌≡◌, Bool, List, ◌++◌}
-use Rattle.records.specs.declared.Entry.{Entry}
-use Rattle.syntax.specs.Concepts.{Role, nodes_of, axioms_of, role_below}
+-- What going through concepts and through the queue adds to the parts.
+use Rattle.std.specs.Prelude.{ℕ, ◌≡◌, ◌<◌, Bool, List, ◌++◌, length, Result, Ok, Err}
+use Rattle.std.proofs.Math.Option.{Option as Maybe}
+use Rattle.arrayvec.specs.ArrayVec.{ArrayVec}
+use Rattle.flattening.specs.declared.parts.TooMany.{TooMany}
+use Rattle.records.specs.Entries.{Entry}
+use Rattle.syntax.specs.Concepts.{nodes_of, axioms_of}
 use Rattle.syntax.specs.Normal.{Nf}
-use Rattle.syntax.specs.Flatten.{Part, atom, walk, Pending, pendings}
+use Rattle.syntax.specs.Flatten.{Atom, Part, atom, shared, meet_one, walk, pendings, name_parts_lem}
+use Rattle.flattening.specs.Trees.{nf_below, nf_of, operand_of}
 use Rattle.flattening.specs.Order.{through, turn_of, axiom_turn}
-use Rattle.syntax.specs.Answers.{limit}
-use Rattle.syntax.specs.Parts.{fresh_no}
-use Rattle.flattening.specs.PartTable.{Held, Pushed, Stands, nf_below, part_word_lem}
-use Rattle.flattening.specs.AlikeParts.{FirstAlike, Sought}
+use Rattle.flattening.specs.Origins.{restriction, tag_of, role_of, part_of, parts_in, parts_made, room}
+use Rattle.flattening.specs.declared.trees.Tree.{Tree}
+use Rattle.flattening.specs.declared.parts.Quantifier.{Quantifier}
+use Rattle.flattening.specs.declared.parts.Source.{Source}
+use Rattle.flattening.specs.declared.parts.Origin.{Origin}
 
--- what going through a concept adds to the parts that a table stands for
-abbrev pub Adds : ℕ → List Entry → Nf → List ℕ → ℕ → List ℕ → ℕ → Type 0
-Adds limit es c before n after m = (so : List Part) → Held limit es before n so → Held limit es after m (so ++ (walk c so).parts)
+-- what a step that adds parts answers
+abbrev pub Outcome : Type 0
+Outcome = Result (Unit {0}) TooMany
 
--- the same for record r, of those below a number, read plainly or under a not
-abbrev pub AddsBelow : Bool → ℕ → List Entry → ℕ → ℕ → List ℕ → ℕ → List ℕ → ℕ → Type 0
-AddsBelow odd limit es below r before n after m = Adds limit es (nf_below odd es below r) before n after m
+-- a step adds parts, by those that are there, or there are more than there is room for
+abbrev pub Adds : List Entry → (List Part → List Part) → List Origin → List Origin → Outcome → Type 0
+Adds es more before after (Ok u) = parts_in es after ≡ parts_in es before ++ more (parts_in es before)
+Adds es more before after (Err e) = room < length (parts_in es before ++ more (parts_in es before))
 
--- a restriction met: nothing above the limit; where its filler needs a fresh name, the word of its part and that of the next;
--- else its word, unless a part alike is there
-pub record RestrictionMet (limit : ℕ) (es : List Entry) (kind : ℕ) (u : Role) (before : List ℕ) (n first second atom : ℕ) (after : List ℕ) (m : ℕ) : Type 0 where
-  pub over : limit < n → m ≡ n
-  pub both : n ≤ limit → atom ≡ fresh_no → (t : List ℕ) × (k : ℕ) × Pushed limit before n first t k × Pushed limit t k second after m
-  pub place : n ≤ limit → (atom ≡ fresh_no → ⊥) → (j : ℕ) × Sought es before n kind u atom (FirstAlike n j)
-      × (j < n → (after ≡ before) × (m ≡ n)) × (n ≤ j → Pushed limit before n first after m)
+-- going through a concept
+abbrev pub AddsParts : List Entry → Nf → List Origin → List Origin → Outcome → Type 0
+AddsParts es c = Adds es (λ so. (walk c so).parts)
 
--- the same for record r, with its records of role and filler, and the number of the filler
-abbrev pub MetAt : ℕ → List Entry → ℕ → ℕ → ℕ → ℕ → ℕ → ℕ → List ℕ → ℕ → List ℕ → ℕ → Type 0
-MetAt limit es kind odd r role filler atom before n after m =
-    RestrictionMet limit es kind (role_below es r role) before n (part_word_lem kind odd r atom) (part_word_lem 1 odd filler 0) atom after m
+-- where a restriction comes from
+abbrev pub source_of : Tree → Bool → ℕ → Source
+source_of t odd f = record { number = t.number; odd = odd; filler = f }
 
--- what going through some of the queue adds to the parts that a table stands for
-abbrev pub AddsAll : ℕ → List Entry → List Pending → List ℕ → ℕ → List ℕ → ℕ → Type 0
-AddsAll limit es q before n after m = (so : List Part) → Held limit es before n so → Held limit es after m (so ++ through q so)
+-- a restriction met, with its filler where that needs no fresh name
+abbrev pub met : List Entry → Quantifier → Source → Maybe Atom → List Part → List Part
+met es q s o so = (meet_one shared (restriction q (tag_of s) (role_of es s)) (tag_of s) (nf_below s.odd es (length es) s.filler) so o).parts
 
--- the same for record i, if it is an axiom, and for all axioms
-abbrev pub AddsAxiom : ℕ → List Entry → ℕ → List ℕ → ℕ → List ℕ → ℕ → Type 0
-AddsAxiom limit es i before n after m = AddsAll limit es (axiom_turn (nodes_of es) i) before n after m
+abbrev pub Meets : List Entry → Quantifier → Source → Maybe Atom → List Origin → List Origin → Outcome → Type 0
+Meets es q s o = Adds es (met es q s o)
 
-abbrev pub AddsAxioms : ℕ → List Entry → List ℕ → ℕ → List ℕ → ℕ → Type 0
-AddsAxioms limit es before n after m = AddsAll limit es (pendings (axioms_of (nodes_of es))) before n after m
+-- the same for a tree
+abbrev pub MeetsAt : Tree → Bool → Quantifier → ℕ → List Origin → List Origin → Outcome → Type 0
+MeetsAt t odd q f = Meets t.table.now q (source_of t odd f) (atom (nf_of odd (operand_of t f)))
 
--- the same for what a part with a given word puts on the queue
-abbrev pub AddsTurn : ℕ → List Entry → ℕ → List ℕ → ℕ → List ℕ → ℕ → Type 0
-AddsTurn limit es word before n after m = (k : ℕ) (p : Part) → Stands es k word p → AddsAll limit es (turn_of k p) before n after m
+-- the parts of the names alone
+abbrev pub Names : ℕ → Result (ArrayVec Origin) TooMany → Type 0
+Names names (Ok os) = (es : List Entry) → parts_in es os.items ≡ name_parts_lem names
+Names names (Err e) = room < names
+
+-- going through record i, if it is an axiom; through all axioms; and through what a part puts on the queue when its turn comes
+abbrev pub AddsAxiom : List Entry → ℕ → List Origin → List Origin → Outcome → Type 0
+AddsAxiom es i = Adds es (through (axiom_turn (nodes_of es) i))
+
+abbrev pub AddsAxioms : List Entry → List Origin → List Origin → Outcome → Type 0
+AddsAxioms es = Adds es (through (pendings (axioms_of (nodes_of es))))
+
+abbrev pub AddsTurn : List Entry → Origin → List Origin → List Origin → Outcome → Type 0
+AddsTurn es o before after r = (k : ℕ) → Adds es (through (turn_of k (part_of es k o))) before after r
+
+-- the parts of the knowledge base, or there are more than there is room for
+abbrev pub Flattens : List Entry → ℕ → Result (ArrayVec Origin) TooMany → Type 0
+Flattens es names (Ok os) = parts_in es os.items ≡ parts_made names es
+Flattens es names (Err e) = room < length (parts_made names es)

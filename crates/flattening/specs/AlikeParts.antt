@@ -1,41 +1,49 @@
--- The search for a part alike, on the table of parts.
-use Rattle.std.specs.Prelude.{ℕ, ◌≤◌, ◌<◌, ◌≡◌, Bool, true, false, List, length}
-use Rattle.std.proofs.Math.Option.{Option, none, some}
-use Rattle.records.specs.declared.Entry.{Entry}
-use Rattle.syntax.specs.Concepts.{Role, role_below}
+-- The search for a part alike.
+use Rattle.std.specs.Prelude.{ℕ, ◌≡◌, ◌<◌, Bool, List, Option, Some, None}
+use Rattle.std.proofs.Math.Option.{Option as Maybe, none, some}
+use Rattle.records.specs.Entries.{Entry}
+use Rattle.records.specs.declared.nodes.Node.{Node}
+use Rattle.records.specs.declared.nodes.Node.TheVariants.{Everything, Nothing, Name, Not, And, Or, Exists, Forall, Role, Inverse, RoleNot, RoleAnd, RoleOr, Axiom}
+use Rattle.syntax.specs.Concepts.{Role as RoleTree, named, inverse, not_r, and_r, or_r, role_below}
 use Rattle.syntax.specs.Normal.{Tag}
-use Rattle.syntax.specs.Flatten.{Atom, atomic, Part, atom, alike, shared}
-use Rattle.flattening.specs.PartTable.{AtomIs, Stands, Stood, restriction, role_kind}
+use Rattle.syntax.specs.Flatten.{atomic, alike, shared}
+use Rattle.flattening.specs.Trees.{role_at}
+use Rattle.flattening.specs.Origins.{atom_is, restriction, part_of, parts_in}
+use Rattle.flattening.specs.declared.trees.Tree.{Tree}
+use Rattle.flattening.specs.declared.parts.Atom.{Atom}
+use Rattle.flattening.specs.declared.parts.Quantifier.{Quantifier}
+use Rattle.flattening.specs.declared.parts.Origin.{Origin}
 
--- what stands where no role does: role 0 as named
-abbrev pub no_role_lem : Entry
-no_role_lem = record { kind = 16; first = 0; second = 0; named = false; vacuous = false; sort = 2; leaf = true }
+-- a place that was found
+abbrev pub place_found : Option ℕ → Maybe ℕ
+place_found (Some j) = some j
+place_found None = none
 
--- the role of a record by its kind, 16 to 20, and body
-pub record Outer (es : List Entry) (below r : ℕ) (e : Entry) : Type 0 where
-  pub low : 16 ≤ e.kind
-  pub high : e.kind ≤ 20
-  pub within : 18 ≤ e.kind → r < below
-  pub role : role_below es below r ≡ role_kind es r e.kind e.first e.second
+-- a tree's role by its outermost record, which is one of a role
+abbrev pub Outer : Tree → Node → Type 0
+Outer t (Role k) = role_at t ≡ named k
+Outer t (Inverse k) = role_at t ≡ inverse k
+Outer t (RoleNot a) = (t.number < t.below) × (role_at t ≡ not_r (role_below t.table.now t.number a))
+Outer t (RoleAnd a b) = (t.number < t.below) × (role_at t ≡ and_r (role_below t.table.now t.number a) (role_below t.table.now t.number b))
+Outer t (RoleOr a b) = (t.number < t.below) × (role_at t ≡ or_r (role_below t.table.now t.number a) (role_below t.table.now t.number b))
+Outer t Everything = ⊥
+Outer t Nothing = ⊥
+Outer t (Name k) = ⊥
+Outer t (Not a) = ⊥
+Outer t (And a b) = ⊥
+Outer t (Or a b) = ⊥
+Outer t (Exists a b) = ⊥
+Outer t (Forall a b) = ⊥
+Outer t (Axiom a b) = ⊥
 
--- b says whether a part with the word x is like a restriction with a given kind, role and atom
-pub record Told (es : List Entry) (x kind : ℕ) (u : Role) (atom : ℕ) (b : Bool) : Type 0 where
-  pub is : (k : ℕ) (q : Part) → Stands es k x q → (g : Tag) (a : Atom) → AtomIs (some a) atom → b ≡ alike (restriction kind g u (atomic a)) q
+-- two trees are one record, if they are of one table
+abbrev pub OneRecord : Tree → Tree → Type 0
+OneRecord x y = (x.number ≡ y.number) × (x.number < x.below) × (y.number < y.below)
 
--- what holds of the parts that a table of n words stands for, and of such a restriction
-pub record Sought (es : List Entry) (table : List ℕ) (n kind : ℕ) (u : Role) (atom : ℕ) (P : List Part → Part → Type 0) : Type 0 where
-  pub holds : (so : List Part) → length so ≡ n → Stood es table so → (g : Tag) (a : Atom) → AtomIs (some a) atom →
-      P so (restriction kind g u (atomic a))
+-- whether a part is like a restriction, whatever their tags and its number
+abbrev pub Told : List Entry → Origin → Quantifier → RoleTree → Atom → Bool → Type 0
+Told es o q u a b = (k : ℕ) (g : Tag) → b ≡ alike (restriction q g u (atomic (atom_is a))) (part_of es k o)
 
--- a place that was found, n for none
-abbrev pub place_in : ℕ → Option ℕ → ℕ
-place_in n (some j) = j
-place_in n none = n
-
--- j is the place of the first part alike
-abbrev pub FirstAlike : ℕ → ℕ → List Part → Part → Type 0
-FirstAlike n j so p = j ≡ place_in n (shared p so)
-
--- j is the first of n parts that is the restriction of a kind, with a role record of those below a number and an atom; n for none
-abbrev pub FoundAlike : List Entry → List ℕ → ℕ → ℕ → ℕ → ℕ → ℕ → ℕ → Type 0
-FoundAlike es table n kind below role atom j = (j ≤ n) × Sought es table n kind (role_below es below role) atom (FirstAlike n j)
+-- the place of the first part that is such a restriction, whatever their tags
+abbrev pub FoundAlike : List Entry → List Origin → Quantifier → RoleTree → Atom → Option ℕ → Type 0
+FoundAlike es os q u a r = (g : Tag) → place_found r ≡ shared (restriction q g u (atomic (atom_is a))) (parts_in es os)

@@ -1,305 +1,254 @@
 // The parts of the flattened knowledge base, found in the order of the queue.
-ghost use Rattle.std.specs.Prelude.{◌≡◌, ◌<◌, ◌≤◌, true, false, List, length, set};
-ghost use Rattle.syntax.specs.Normal.{plain, negated};
+ghost use Rattle.std.specs.Prelude.{ℕ, ◌≡◌, ◌<◌, ◌≤◌, false, true, List, []};
+ghost use Rattle.records.specs.Entries.{Entry};
 ghost use Rattle.syntax.specs.Flatten.{atom, name_parts_lem};
-ghost use Rattle.records.specs.declared.Entry.{Entry};
-ghost use Rattle.records.specs.RecordTable.{seen};
-ghost use Rattle.syntax.specs.Concepts.{concept_below};
-ghost use Rattle.flattening.specs.PartTable.{AtomIs, part_word_lem, Pushed, Held, HeldMade};
-ghost use Rattle.flattening.specs.Adding.{MetAt, AddsBelow, AddsAxiom, AddsAxioms, AddsTurn};
+ghost use Rattle.flattening.specs.Origins.{atom_found};
+ghost use Rattle.flattening.specs.Trees.{nf_of};
+ghost use Rattle.flattening.specs.Adding.{AddsParts, Names, AddsAxiom, AddsAxioms, AddsTurn, MeetsAt, Flattens};
 
-use crate::sharing::first_alike;
-use crate::{EVERYTHING, FRESH, NOTHING};
-use records::record_at;
+use crate::sharing::{first_alike, restricted_role};
+use crate::trees::Tree;
+use arrayvec::{ArrayVec, CapacityError};
+use records::nodes::Node;
+use records::table::Table;
 
-// The normal form of record r, of those below a number, as a filler: a name's number, EVERYTHING, NOTHING, or FRESH for
-// one that needs a fresh name.
-#[cycle(negated_atom_plain_atom)]
-pub fn plain_atom(table: &[u32; 255], count: usize, r: u8, below: usize) -> u16
-    requires { count ≤ 255 }
-    ensures { AtomIs (atom (plain (concept_below (seen table.now count) below r))) result }
-{
-    let i = r as usize;
-    if below <= i {
-        return NOTHING;
+// A filler that needs no fresh name.
+#[derive(Clone, Copy, PartialEq, Eq)]
+pub enum Atom {
+    Everything,
+    Nothing,
+    Name(u8),
+}
+
+#[derive(Clone, Copy, PartialEq, Eq)]
+pub enum Quantifier {
+    Exists,
+    Forall,
+}
+
+// The record of a restriction, whether that is read under an odd number of nots, and the record of its filler.
+#[derive(Clone, Copy, PartialEq, Eq)]
+pub struct Source {
+    pub number: u8,
+    pub odd: bool,
+    pub filler: u8,
+}
+
+// Where a part comes from: a name; a restriction's filler that needs a fresh name; or a restriction, with its filler where that
+// needs none, else the next part is its filler.
+#[derive(Clone, Copy, PartialEq, Eq)]
+pub enum Origin {
+    Name(u8),
+    Fresh(Source),
+    Restriction(Quantifier, Source, Option<Atom>),
+}
+
+// By hand, since a derive takes a variant without fields only.
+impl Default for Origin {
+    fn default() -> Self {
+        Origin::Name(0)
     }
-    let e = record_at(table, count, r);
-    let k = e.kind;
-    let a = e.first;
-    match k {
-        0x01 => EVERYTHING,
-        0x03 => a as u16,
-        0x04 => negated_atom(table, count, a, i),
-        0x05..=0x08 => FRESH,
-        _ => NOTHING,
+}
+
+// There is no room for one part more.
+#[derive(Clone, Copy, PartialEq, Eq)]
+pub struct TooMany;
+
+impl From<CapacityError<Origin>> for TooMany {
+    fn from(_full: CapacityError<Origin>) -> TooMany {
+        TooMany
+    }
+}
+
+// The normal form of a concept as a filler; none for one that needs a fresh name.
+// Here and below two functions call each other, as document 01 asks.
+#[cycle(negated_atom_plain_atom)]
+pub fn plain_atom(tree: Tree) -> Option<Atom>
+    ensures { atom_found result ≡ atom (nf_of false tree.entry) }
+{
+    let Some(node) = tree.node() else {
+        return Some(Atom::Nothing);
+    };
+    match node {
+        Node::Everything => Some(Atom::Everything),
+        Node::Name(t) => Some(Atom::Name(t)),
+        Node::Not(a) => negated_atom(tree.operand(a)),
+        Node::And(_, _) | Node::Or(_, _) | Node::Exists(_, _) | Node::Forall(_, _) => None,
+        _ => Some(Atom::Nothing),
     }
 }
 
 // The same under a not.
 #[cycle(negated_atom_plain_atom)]
-pub fn negated_atom(table: &[u32; 255], count: usize, r: u8, below: usize) -> u16
-    requires { count ≤ 255 }
-    ensures { AtomIs (atom (negated (concept_below (seen table.now count) below r))) result }
+pub fn negated_atom(tree: Tree) -> Option<Atom>
+    ensures { atom_found result ≡ atom (nf_of true tree.entry) }
 {
-    let i = r as usize;
-    if below <= i {
-        return EVERYTHING;
-    }
-    let e = record_at(table, count, r);
-    let k = e.kind;
-    let a = e.first;
-    match k {
-        0x01 => NOTHING,
-        0x03 => FRESH,
-        0x04 => plain_atom(table, count, a, i),
-        0x05..=0x08 => FRESH,
-        _ => EVERYTHING,
+    let Some(node) = tree.node() else {
+        return Some(Atom::Everything);
+    };
+    match node {
+        Node::Everything => Some(Atom::Nothing),
+        Node::Name(_) => None,
+        Node::Not(a) => plain_atom(tree.operand(a)),
+        Node::And(_, _) | Node::Or(_, _) | Node::Exists(_, _) | Node::Forall(_, _) => None,
+        _ => Some(Atom::Everything),
     }
 }
 
-// Sets one word.
-fn put(parts: &mut [u32], n: usize, word: u32)
-    requires { n < length parts.old }
-    ensures { parts.new ≡ set parts.old n word }
+// A filler, read plainly or under a not.
+fn filler_atom(tree: Tree, odd: bool) -> Option<Atom>
+    ensures { atom_found result ≡ atom (nf_of odd tree.entry) }
 {
-    parts[n] = word;
-}
-
-// Puts a part at the end of the table; a count above the limit says that there are too many.
-fn push(parts: &mut [u32; 20], n: usize, limit: usize, word: u32) -> usize
-    requires { limit ≤ 20 }
-    ensures { Pushed limit parts.old n word parts.new result }
-{
-    if n < limit {
-        put(parts, n, word);
-        return n + 1;
+    if odd {
+        return negated_atom(tree);
     }
-    limit + 1
+    plain_atom(tree)
 }
 
-// A part's word: kind 0 name, 1 fresh, 2 existential, 3 universal; 1 if read under an odd number of nots; the number of the
-// name or of the record; a restriction's filler, as plain_atom has it.
-fn part_word(kind: u8, odd: u8, number: u8, filler: u16) -> u32
-    requires { (kind < 4) × (odd < 2) × (filler < 259) }
-    ensures { result ≡ part_word_lem kind odd number filler }
-{
-    (kind as u32) + ((odd as u32) << 2) + ((number as u32) << 3) + ((filler as u32) << 11)
-}
-
-// A restriction, record r, met: its part, and the next one for its filler where that needs a fresh name; no part where one
-// alike is there.
+// A restriction met: its part, and the next one for its filler where that needs a fresh name; no part where one alike is there.
 fn meet(
-    table: &[u32; 255],
-    count: usize,
-    parts: &mut [u32; 20],
-    n: usize,
-    limit: usize,
-    kind: u8,
-    odd: u8,
-    r: u8,
-    role: u8,
+    tree: Tree,
+    odd: bool,
+    quantifier: Quantifier,
     filler: u8,
-    atom: u16,
-) -> usize
-    requires { (count ≤ 255) × (limit ≤ 20) × (2 ≤ kind) × (kind < 4) × (odd < 2) × (atom < 259) }
-    ensures { MetAt limit (seen table.now count) kind odd r role filler atom parts.old n parts.new result }
+    parts: &mut ArrayVec<Origin, 20>,
+) -> Result<(), TooMany>
+    ensures { MeetsAt tree.entry odd quantifier filler parts.old.items parts.new.items result }
 {
-    if limit < n {
-        return n;
+    let source = Source {
+        number: tree.number,
+        odd,
+        filler,
+    };
+    match filler_atom(tree.operand(filler), odd) {
+        None => {
+            parts.try_push(Origin::Restriction(quantifier, source, None))?;
+            parts.try_push(Origin::Fresh(source))?;
+            Ok(())
+        }
+        Some(atom) => {
+            let role = restricted_role(tree.table, source);
+            match first_alike(parts.as_slice(), quantifier, role, atom) {
+                None => {
+                    parts.try_push(Origin::Restriction(quantifier, source, Some(atom)))?;
+                    Ok(())
+                }
+                Some(_) => Ok(()),
+            }
+        }
     }
-    let word = part_word(kind, odd, r, atom);
-    if atom == FRESH {
-        let m = push(parts, n, limit, word);
-        return push(parts, m, limit, part_word(1, odd, filler, 0));
-    }
-    let j = first_alike(table, count, parts, n, kind, role, r as usize, atom);
-    if j < n {
-        return n;
-    }
-    push(parts, n, limit, word)
 }
 
-// The parts of the normal form of record r, of those below a number, from left to right.
+// The parts of the normal form of a concept, from left to right.
 #[cycle(negated_parts_plain_parts)]
-fn plain_parts(
-    table: &[u32; 255],
-    count: usize,
-    r: u8,
-    below: usize,
-    parts: &mut [u32; 20],
-    n: usize,
-    limit: usize,
-) -> usize
-    requires { (count ≤ 255) × (limit ≤ 20) }
-    ensures { AddsBelow false limit (seen table.now count) below r parts.old n parts.new result }
+fn plain_parts(tree: Tree, parts: &mut ArrayVec<Origin, 20>) -> Result<(), TooMany>
+    ensures { AddsParts tree.entry.table.now (nf_of false tree.entry) parts.old.items parts.new.items result }
 {
-    let i = r as usize;
-    if below <= i {
-        return n;
-    }
-    let e = record_at(table, count, r);
-    let k = e.kind;
-    let a = e.first;
-    let b = e.second;
-    match k {
-        0x04 => negated_parts(table, count, a, i, parts, n, limit),
-        0x05..=0x06 => {
-            let m = plain_parts(table, count, a, i, parts, n, limit);
-            plain_parts(table, count, b, i, parts, m, limit)
+    let Some(node) = tree.node() else {
+        return Ok(());
+    };
+    match node {
+        Node::Not(a) => negated_parts(tree.operand(a), parts),
+        Node::And(a, b) | Node::Or(a, b) => {
+            plain_parts(tree.operand(a), parts)?;
+            plain_parts(tree.operand(b), parts)
         }
-        0x07 => {
-            let f = plain_atom(table, count, b, i);
-            meet(table, count, parts, n, limit, 2, 0, r, a, b, f)
-        }
-        0x08 => {
-            let f = plain_atom(table, count, b, i);
-            meet(table, count, parts, n, limit, 3, 0, r, a, b, f)
-        }
-        _ => n,
+        Node::Exists(_, filler) => meet(tree, false, Quantifier::Exists, filler, parts),
+        Node::Forall(_, filler) => meet(tree, false, Quantifier::Forall, filler, parts),
+        _ => Ok(()),
     }
 }
 
 // The same under a not.
 #[cycle(negated_parts_plain_parts)]
-fn negated_parts(
-    table: &[u32; 255],
-    count: usize,
-    r: u8,
-    below: usize,
-    parts: &mut [u32; 20],
-    n: usize,
-    limit: usize,
-) -> usize
-    requires { (count ≤ 255) × (limit ≤ 20) }
-    ensures { AddsBelow true limit (seen table.now count) below r parts.old n parts.new result }
+fn negated_parts(tree: Tree, parts: &mut ArrayVec<Origin, 20>) -> Result<(), TooMany>
+    ensures { AddsParts tree.entry.table.now (nf_of true tree.entry) parts.old.items parts.new.items result }
 {
-    let i = r as usize;
-    if below <= i {
-        return n;
-    }
-    let e = record_at(table, count, r);
-    let k = e.kind;
-    let a = e.first;
-    let b = e.second;
-    match k {
-        0x04 => plain_parts(table, count, a, i, parts, n, limit),
-        0x05..=0x06 => {
-            let m = negated_parts(table, count, a, i, parts, n, limit);
-            negated_parts(table, count, b, i, parts, m, limit)
+    let Some(node) = tree.node() else {
+        return Ok(());
+    };
+    match node {
+        Node::Not(a) => plain_parts(tree.operand(a), parts),
+        Node::And(a, b) | Node::Or(a, b) => {
+            negated_parts(tree.operand(a), parts)?;
+            negated_parts(tree.operand(b), parts)
         }
-        0x07 => {
-            let f = negated_atom(table, count, b, i);
-            meet(table, count, parts, n, limit, 3, 1, r, a, b, f)
-        }
-        0x08 => {
-            let f = negated_atom(table, count, b, i);
-            meet(table, count, parts, n, limit, 2, 1, r, a, b, f)
-        }
-        _ => n,
+        Node::Exists(_, filler) => meet(tree, true, Quantifier::Forall, filler, parts),
+        Node::Forall(_, filler) => meet(tree, true, Quantifier::Exists, filler, parts),
+        _ => Ok(()),
     }
 }
 
 // The parts of so many names.
-fn name_parts(names: usize, parts: &mut [u32; 20], limit: usize) -> usize
-    requires { limit ≤ 20 }
-    ensures { (es : List Entry) → Held limit es parts.new result (name_parts_lem names) }
+fn name_parts(names: usize) -> Result<ArrayVec<Origin, 20>, TooMany>
+    ensures { Names names result }
 {
-    let mut n: usize = 0;
-    let mut i: u8 = 0;
-    while n <= limit {
-        if n == names {
-            return n;
-        }
-        n = push(parts, n, limit, part_word(0, 0, i, 0));
-        i = i + 1;
+    let mut parts: ArrayVec<Origin, 20> = ArrayVec::new();
+    for i in 0..names {
+        parts.try_push(Origin::Name(i as u8))?;
     }
-    n
+    Ok(parts)
 }
 
 // The parts of record i, if it is an axiom.
-fn axiom_at(
-    table: &[u32; 255],
-    count: usize,
-    i: u8,
-    parts: &mut [u32; 20],
-    n: usize,
-    limit: usize,
-) -> usize
-    requires { (count ≤ 255) × (i < count) × (limit ≤ 20) }
-    ensures { AddsAxiom limit (seen table.now count) i parts.old n parts.new result }
+fn axiom_at(table: &Table, i: u8, parts: &mut ArrayVec<Origin, 20>) -> Result<(), TooMany>
+    ensures { AddsAxiom table.now i parts.old.items parts.new.items result }
 {
-    let e = record_at(table, count, i);
-    let k = e.kind;
-    if k == 0x20 {
-        let m = negated_parts(table, count, e.first, i as usize, parts, n, limit);
-        return plain_parts(table, count, e.second, i as usize, parts, m, limit);
-    }
-    n
+    let Some(node) = table.node(i) else {
+        return Ok(());
+    };
+    let Node::Axiom(left, right) = node else {
+        return Ok(());
+    };
+    let axiom = Tree {
+        table,
+        number: i,
+        below: table.len(),
+    };
+    negated_parts(axiom.operand(left), parts)?;
+    plain_parts(axiom.operand(right), parts)
 }
 
 // The parts of all axioms.
-fn axiom_parts(
-    table: &[u32; 255],
-    count: usize,
-    parts: &mut [u32; 20],
-    n: usize,
-    limit: usize,
-) -> usize
-    requires { (count ≤ 255) × (limit ≤ 20) }
-    ensures { AddsAxioms limit (seen table.now count) parts.old n parts.new result }
+fn axiom_parts(table: &Table, parts: &mut ArrayVec<Origin, 20>) -> Result<(), TooMany>
+    ensures { AddsAxioms table.now parts.old.items parts.new.items result }
 {
-    let mut m = n;
-    let mut i: u8 = 0;
-    while (i as usize) < count {
-        m = axiom_at(table, count, i, parts, m, limit);
-        i = i + 1;
+    for i in 0..table.len() {
+        axiom_at(table, i as u8, parts)?;
     }
-    m
+    Ok(())
 }
 
-// The parts that part j gives when its turn comes: a fresh one those of its filler.
-fn turn(
-    table: &[u32; 255],
-    count: usize,
-    word: u32,
-    parts: &mut [u32; 20],
-    n: usize,
-    limit: usize,
-) -> usize
-    requires { (count ≤ 255) × (limit ≤ 20) }
-    ensures { AddsTurn limit (seen table.now count) word parts.old n parts.new result }
+// The parts that a part gives when its turn comes: a fresh one those of its filler.
+fn turn(table: &Table, part: Origin, parts: &mut ArrayVec<Origin, 20>) -> Result<(), TooMany>
+    ensures { AddsTurn table.now part parts.old.items parts.new.items result }
 {
-    let r = (word / 8 % 256) as u8;
-    if word % 8 == 1 {
-        return plain_parts(table, count, r, count, parts, n, limit);
+    let Origin::Fresh(source) = part else {
+        return Ok(());
+    };
+    let filler = Tree {
+        table,
+        number: source.filler,
+        below: table.len(),
+    };
+    if source.odd {
+        return negated_parts(filler, parts);
     }
-    if word % 8 == 5 {
-        return negated_parts(table, count, r, count, parts, n, limit);
-    }
-    n
+    plain_parts(filler, parts)
 }
 
-// The parts of a knowledge base whose names are so many; a count above the limit says that there are too many.
-pub fn flatten(
-    table: &[u32; 255],
-    count: usize,
-    names: usize,
-    parts: &mut [u32; 20],
-    limit: usize,
-) -> usize
-    requires { (count ≤ 255) × (limit ≤ 20) }
-    ensures { HeldMade limit (seen table.now count) names parts.new result }
+// The parts of a knowledge base whose names are so many.
+pub fn flatten(table: &Table, names: usize) -> Result<ArrayVec<Origin, 20>, TooMany>
+    ensures { Flattens table.now names result }
 {
-    let a = name_parts(names, parts, limit);
-    let mut n = axiom_parts(table, count, parts, a, limit);
+    let mut parts = name_parts(names)?;
+    axiom_parts(table, &mut parts)?;
+    // By index, since a turn makes the list longer.
     let mut j: usize = 0;
-    while j < n {
-        if limit < n {
-            return n;
-        }
-        let w = parts[j];
-        n = turn(table, count, w, parts, n, limit);
-        j = j + 1;
+    while j < parts.len() {
+        let part = parts[j];
+        turn(table, part, &mut parts)?;
+        j += 1;
     }
-    n
+    Ok(parts)
 }

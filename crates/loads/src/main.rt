@@ -1,130 +1,96 @@
 // Loads worked sheets and writes the flattened knowledge base of each, to be compared with what a separate program writes.
 #![tactic(auto)]
 
-ghost use Rattle.std.specs.Prelude.{◌<◌, ◌≤◌};
+ghost use Rattle.std.specs.Prelude.{◌≡◌};
+ghost use Rattle.tbox.specs.Promise.{kind_number, filler_number};
 
+use flattening::parts::Quantifier;
 use std::io::{Print, Stdout};
-use tbox::base::ROLE_WORDS;
+use tbox::base::{Base, Filler, Kind, Part};
 
-// A failed write is ignored: what is missing shows when the output is compared.
-fn text(stdout: &Stdout, b: &[u8]) {
-    let _ = stdout.write_all(b);
+const SHEETS: [&[u8]; 13] = [
+    b"",
+    b"\x01\x10\x00\x03\x00\x07\x01\x02\x20\x00\x03",
+    b"\x01\x10\x00\x03\x00\x07\x01\x02\x20\x00\x03\x02\x20\x02\x05",
+    b"\x01\x10\x00\x03\x00\x07\x01\x02\x20\x00\x03\x11\x00\x02\x08\x05\x06\x20\x02\x07",
+    b"\x10\x00\x01\x08\x00\x01\x02\x20\x02\x03",
+    b"\x01\x03\x00\x10\x00\x08\x02\x00\x06\x01\x03\x20\x00\x04",
+    b"\x03\x00\x10\x00\x04\x00\x07\x01\x02\x20\x00\x03",
+    b"\x01\x10\x00\x03\x00\x07\x01\x02\x07\x01\x03\x20\x00\x04\x07\x01\x02\x20\x00\x06",
+    b"\x03\x01\x10\x03\x11\x00\x12\x02\x13\x01\x03\x10\x01\x10\x02\x13\x05\x06\x14\x04\x07\x07\x08\x00\x11\x02\x04\x09\x08\x0a\x0b\x01\x20\x0d\x0c",
+    b"\x03\x00\x03\x03\x04\x01\x05\x00\x02\x10\x00\x07\x04\x00\x03\x06\x06\x05\x06\x20\x03\x07\x03\x01\x08\x04\x09\x03\x05\x20\x0a\x0b\x01\x03\x02\x11\x00\x02\x07\x0f\x10\x05\x0e\x11\x04\x12\x20\x0d\x13",
+    b"\x10\x00\x10\x01\x12\x01\x13\x00\x02\x12\x01\x13\x00\x04\x12\x01\x13\x06\x00\x03\x00\x07\x03\x08\x04\x08\x04\x0a\x07\x05\x0b\x07\x07\x08\x01\x20\x0e\x09\x20\x0e\x0c\x20\x0e\x0d",
+    b"\x03\x0b\x10\x00",
+    b"\x03\x00\x04\x00\x05\x01\x01",
+];
+
+// Words, which end a line. A failed write is ignored, here and below: what is missing shows when the output is compared.
+fn write_words(stdout: &Stdout, words: &[u64]) {
+    for word in words {
+        let _ = print!(stdout; " {word:016x}");
+    }
+    let _ = println!(stdout);
 }
 
-fn number(stdout: &Stdout, n: u64) {
-    let _ = print!(stdout; " {n}");
-}
+// Kinds and fillers get their numbers here, since this program alone writes numbers; the types of `tbox` have none.
 
-fn word(stdout: &Stdout, w: u64) {
-    let _ = print!(stdout; " {w:016x}");
-}
-
-// A part's line: kind, filler, and the role sets of its role, four words.
-fn part(stdout: &Stdout, kind: u8, filler: u16, role: &[u64; ROLE_WORDS], i: usize)
-    requires { i < 20 }
+// The number of a part's kind: 0 name, 1 fresh, 2 existential, 3 universal.
+#[tactic(auto, unfolding(tbox::specs::Promise::kind_number))]
+fn number_of(kind: Kind) -> u64
+    ensures { result ≡ kind_number kind }
 {
-    text(stdout, b"part");
-    number(stdout, kind as u64);
-    number(stdout, filler as u64);
-    word(stdout, role[4 * i]);
-    word(stdout, role[4 * i + 1]);
-    word(stdout, role[4 * i + 2]);
-    word(stdout, role[4 * i + 3]);
-    text(stdout, b"\n");
-}
-
-fn parts(stdout: &Stdout, kind: &[u8; 20], filler: &[u16; 20], role: &[u64; ROLE_WORDS], c: usize)
-    requires { c ≤ 20 }
-{
-    for i in 0..c {
-        part(stdout, kind[i], filler[i], role, i);
+    match kind {
+        Kind::Name => 0,
+        Kind::Fresh => 1,
+        Kind::Restriction(Quantifier::Exists, _) => 2,
+        Kind::Restriction(Quantifier::Forall, _) => 3,
     }
 }
 
-// The words that the labels of c parts take.
-fn words_for(c: usize) -> usize
-    ensures { result ≤ 64 }
+// The number of a restriction's filler: a part's, 256 for everything, 257 for nothing; 0 for a name.
+#[tactic(auto, unfolding(tbox::specs::Promise::filler_number))]
+fn filler_of(kind: Kind) -> u64
+    ensures { result ≡ filler_number kind }
 {
-    match c {
-        0..=6 => 1,
-        7 => 2,
-        8 => 4,
-        9 => 8,
-        10 => 16,
-        11 => 32,
-        _ => 64,
+    match kind {
+        Kind::Name | Kind::Fresh => 0,
+        Kind::Restriction(_, Filler::Everything) => 256,
+        Kind::Restriction(_, Filler::Nothing) => 257,
+        Kind::Restriction(_, Filler::Part(k)) => u64::from(k),
     }
 }
 
-// The labels on which every flattened axiom holds.
-fn labels(stdout: &Stdout, good: &[u64; 64], n: usize)
-    requires { n ≤ 64 }
-{
-    text(stdout, b"labels");
-    for w in 0..n {
-        word(stdout, good[w]);
+// A line for each part: its kind's number, its filler's, and the role sets of its role, four words.
+fn write_parts(stdout: &Stdout, parts: &[Part]) {
+    for part in parts {
+        let (kind, filler) = (number_of(part.kind), filler_of(part.kind));
+        let _ = print!(stdout; "part {kind} {filler}");
+        write_words(stdout, &part.role);
     }
-    text(stdout, b"\n");
+}
+
+// The counts of names, roles and parts, the parts, and the labels on which every flattened axiom holds.
+fn write_base(stdout: &Stdout, base: &Base) {
+    let (names, roles, parts) = (base.names, base.size.roles, base.size.parts);
+    let _ = println!(stdout; "kb {names} {roles} {parts}");
+    write_parts(stdout, &base.parts);
+    let _ = print!(stdout; "labels");
+    write_words(stdout, &base.good[..bitset::words_for(parts)]);
 }
 
 fn report(stdout: &Stdout, sheet: &[u8]) {
-    let l = tbox::base::load(sheet);
-    if l.fault != 0 {
-        text(stdout, b"refused");
-        number(stdout, l.fault as u64);
-        number(stdout, l.place as u64);
-        text(stdout, b"\n");
-        return;
+    match tbox::loading::load(sheet) {
+        Ok(base) => write_base(stdout, &base),
+        Err(refusal) => {
+            let (number, place) = (refusal.reason.number(), refusal.place);
+            let _ = println!(stdout; "refused {number} {place}");
+        }
     }
-    let b = l.base;
-    text(stdout, b"kb");
-    number(stdout, b.names as u64);
-    let p = b.parts;
-    number(stdout, p.roles as u64);
-    number(stdout, p.count as u64);
-    text(stdout, b"\n");
-    let kind = p.kind;
-    let filler = p.filler;
-    let role = b.role;
-    parts(stdout, &kind, &filler, &role, p.count);
-    let good = b.good;
-    labels(stdout, &good, words_for(p.count));
 }
 
 fn main(rt: HostRuntime) {
     let stdout = &rt.stdout();
-    report(stdout, b"");
-    report(stdout, b"\x01\x10\x00\x03\x00\x07\x01\x02\x20\x00\x03");
-    report(
-        stdout,
-        b"\x01\x10\x00\x03\x00\x07\x01\x02\x20\x00\x03\x02\x20\x02\x05",
-    );
-    report(
-        stdout,
-        b"\x01\x10\x00\x03\x00\x07\x01\x02\x20\x00\x03\x11\x00\x02\x08\x05\x06\x20\x02\x07",
-    );
-    report(stdout, b"\x10\x00\x01\x08\x00\x01\x02\x20\x02\x03");
-    report(
-        stdout,
-        b"\x01\x03\x00\x10\x00\x08\x02\x00\x06\x01\x03\x20\x00\x04",
-    );
-    report(stdout, b"\x03\x00\x10\x00\x04\x00\x07\x01\x02\x20\x00\x03");
-    report(
-        stdout,
-        b"\x01\x10\x00\x03\x00\x07\x01\x02\x07\x01\x03\x20\x00\x04\x07\x01\x02\x20\x00\x06",
-    );
-    report(
-        stdout,
-        b"\x03\x01\x10\x03\x11\x00\x12\x02\x13\x01\x03\x10\x01\x10\x02\x13\x05\x06\x14\x04\x07\x07\x08\x00\x11\x02\x04\x09\x08\x0a\x0b\x01\x20\x0d\x0c",
-    );
-    report(
-        stdout,
-        b"\x03\x00\x03\x03\x04\x01\x05\x00\x02\x10\x00\x07\x04\x00\x03\x06\x06\x05\x06\x20\x03\x07\x03\x01\x08\x04\x09\x03\x05\x20\x0a\x0b\x01\x03\x02\x11\x00\x02\x07\x0f\x10\x05\x0e\x11\x04\x12\x20\x0d\x13",
-    );
-    report(
-        stdout,
-        b"\x10\x00\x10\x01\x12\x01\x13\x00\x02\x12\x01\x13\x00\x04\x12\x01\x13\x06\x00\x03\x00\x07\x03\x08\x04\x08\x04\x0a\x07\x05\x0b\x07\x07\x08\x01\x20\x0e\x09\x20\x0e\x0c\x20\x0e\x0d",
-    );
-    report(stdout, b"\x03\x0b\x10\x00");
-    report(stdout, b"\x03\x00\x04\x00\x05\x01\x01");
+    for sheet in SHEETS {
+        report(stdout, sheet);
+    }
 }

@@ -1,8 +1,8 @@
 -- Bytes put into a lent buffer, and what a call that writes bytes answers and leaves (02, N7: "Every output, here and later, keeps the
 -- bytes past what is written, and the length written is answered").
-use Rattle.std.specs.Prelude.{ℕ, ◌+◌, ◌≤◌, ◌≡◌, cond, List, [], ◌∷◌, ◌++◌, ltb, length, take, drop}
-use Rattle.output.specs.declared.WriteAnswer.{WriteAnswer}
-use Rattle.output.specs.declared.WriteAnswer.TheVariants.{Refused, Written}
+use Rattle.std.specs.Prelude.{ℕ, ◌+◌, ◌≤◌, ◌≡◌, cond, List, [], ◌∷◌, ◌++◌, ltb, length, take, drop, Result}
+use Rattle.refusals.specs.declared.Refusal.{Refusal}
+use Rattle.refusals.specs.Numbers.{numbers_of}
 
 -- bytes put into a buffer from a place on, the others kept; the answer is the place after them
 pub record Puts (bytes : List ℕ) (at : ℕ) (before after : List ℕ) (r : ℕ) : Type 0 where
@@ -26,11 +26,10 @@ output_leaves (refuse n p) out = out
 output_leaves (write b) out = cond (ltb (length out) (length b)) out (b ++ drop (length b) out)
 
 -- the number and values for each case of an answer
-unfoldable pub write_numbers : WriteAnswer → List ℕ
-write_numbers (Refused n p) = n ∷ p ∷ []
-write_numbers (Written n) = 0 ∷ 0 ∷ n ∷ []
+abbrev pub write_numbers : Result ℕ Refusal → List ℕ
+write_numbers = numbers_of (λ n. n ∷ [])
 
 -- the contract of a call: its answer and every byte of the output, for what it is to write and the output before
-pub record Writes (o : Output) (before after : List ℕ) (r : WriteAnswer) : Type 0 where
+pub record Writes (o : Output) (before after : List ℕ) (r : Result ℕ Refusal) : Type 0 where
   pub answer : write_numbers r ≡ output_says o before
   pub output : after ≡ output_leaves o before

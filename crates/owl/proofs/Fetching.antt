@@ -12,7 +12,7 @@ use Rattle.syntax.specs.Concepts.{Role, named, inverse, not_r, and_r, or_r, Conc
 use Rattle.syntax.specs.Bounds.{NamesBelow, EachRole, AxiomNames, AxiomRoles}
 use Rattle.owl_words.specs.declared.Word.{Word}
 use Rattle.owl_words.specs.declared.Word.TheVariants.{SubClassOf, IntersectionOf, UnionOf, ComplementOf, SomeValuesFrom, AllValuesFrom, InverseOf, Thing, Nothing, ClassNamed, PropertyNamed}
-use Rattle.owl_words.specs.Words.{token, digits, spelling, known_words, lower_forms, name_words, upper_words, property_words, same_bytes, spelled, known, skip, letters, past, front, next}
+use Rattle.owl_words.specs.Words.{token, digits, spelling, known_words, same_bytes, spelled, known, skip, letters, past, front, next}
 use Rattle.output.specs.Text.{text}
 use Rattle.owl_import.specs.Grammar.{Parsed, refused, done, and_then, counted, opens, closes, closed, Reader, one, two, property_by, property, role_by, role, concept_by, concept, most, axiom2, axioms_by, axioms}
 use Rattle.owl_export.specs.AxiomText.{one_text, two_text, role_text, concept_text, axiom_text, axioms_text}
@@ -40,31 +40,31 @@ abbrev Fronts : Word → ℕ → Type 0
 Fronts w b = (s : List ℕ) → next (spelling w ++ (b ∷ s)) ≡ token w (length (spelling w ++ (b ∷ s))) (b ∷ s)
 
 sub-front : Fronts SubClassOf 40
-unfolding spelling text skip front letters past known spelled known_words lower_forms name_words upper_words property_words same_bytes digits
+unfolding spelling text skip front letters past known spelled known_words same_bytes digits
 sub-front s = refl
 
 and_front : Fronts IntersectionOf 40
-unfolding spelling text skip front letters past known spelled known_words lower_forms name_words upper_words property_words same_bytes digits
+unfolding spelling text skip front letters past known spelled known_words same_bytes digits
 and_front s = refl
 
 or_front : Fronts UnionOf 40
-unfolding spelling text skip front letters past known spelled known_words lower_forms name_words upper_words property_words same_bytes digits
+unfolding spelling text skip front letters past known spelled known_words same_bytes digits
 or_front s = refl
 
 not-front : Fronts ComplementOf 40
-unfolding spelling text skip front letters past known spelled known_words lower_forms name_words upper_words property_words same_bytes digits
+unfolding spelling text skip front letters past known spelled known_words same_bytes digits
 not-front s = refl
 
 some-front : Fronts SomeValuesFrom 40
-unfolding spelling text skip front letters past known spelled known_words lower_forms name_words upper_words property_words same_bytes digits
+unfolding spelling text skip front letters past known spelled known_words same_bytes digits
 some-front s = refl
 
 all-front : Fronts AllValuesFrom 40
-unfolding spelling text skip front letters past known spelled known_words lower_forms name_words upper_words property_words same_bytes digits
+unfolding spelling text skip front letters past known spelled known_words same_bytes digits
 all-front s = refl
 
 inverse-front : Fronts InverseOf 40
-unfolding spelling text skip front letters past known spelled known_words lower_forms name_words upper_words property_words same_bytes digits
+unfolding spelling text skip front letters past known spelled known_words same_bytes digits
 inverse-front s = refl
 
 -- what may stand behind an operand
@@ -75,11 +75,11 @@ stop_cases : (P : ℕ → Type 0) → P 32 → P 41 → (b : ℕ) → Stop b →
 stop_cases P p q b h = ⊎_elim (λ e. rw e p) (λ e. rw e q) h
 
 thing_front : (b : ℕ) → Stop b → Fronts Thing b
-unfolding spelling text skip front letters past known spelled known_words lower_forms name_words upper_words property_words same_bytes digits
+unfolding spelling text skip front letters past known spelled known_words same_bytes digits
 thing_front = stop_cases (Fronts Thing) (λ s. refl) (λ s. refl)
 
 nothing-front : (b : ℕ) → Stop b → Fronts Nothing b
-unfolding spelling text skip front letters past known spelled known_words lower_forms name_words upper_words property_words same_bytes digits
+unfolding spelling text skip front letters past known spelled known_words same_bytes digits
 nothing-front = stop_cases (Fronts Nothing) (λ s. refl) (λ s. refl)
 
 -- a number from k on is k or a larger one
@@ -99,7 +99,7 @@ below-12 P p0 p1 p2 p3 p4 p5 p6 p7 p8 p9 p10 p11 n h =
     (from P 9 n p9 (from P 10 n p10 (from P 11 n p11 (λ l. absurd (omega arith))))))))))))) (omega arith)
 
 class_front : (b : ℕ) → Stop b → (n : ℕ) → n < 12 → Fronts (ClassNamed n) b
-unfolding spelling text skip front letters past known spelled known_words lower_forms name_words upper_words property_words same_bytes digits
+unfolding spelling text skip front letters past known spelled known_words same_bytes digits
 class_front b t n h =
     stop_cases (λ b. Fronts (ClassNamed n) b)
     (below-12 (λ n. Fronts (ClassNamed n) 32) (λ s. refl) (λ s. refl) (λ s. refl) (λ s. refl) (λ s. refl) (λ s. refl) (λ s. refl) (λ s. refl) (λ s. refl) (λ s. refl) (λ s. refl) (λ s. refl) n h)
@@ -107,7 +107,7 @@ class_front b t n h =
     b t
 
 property-front : (b : ℕ) → Stop b → (n : ℕ) → n < 4 → Fronts (PropertyNamed n) b
-unfolding spelling text skip front letters past known spelled known_words lower_forms name_words upper_words property_words same_bytes digits
+unfolding spelling text skip front letters past known spelled known_words same_bytes digits
 property-front b t n h =
     stop_cases (λ b. Fronts (PropertyNamed n) b)
     (below-4 (λ n. Fronts (PropertyNamed n) 32) (λ s. refl) (λ s. refl) (λ s. refl) (λ s. refl) n h)

@@ -8,7 +8,7 @@ use lib.ListN.{length}
 use lib.Dec.{leb}
 use native.Mathlib.Omega.{arith}
 use borrow.Author.Tests.{le-leb}
-use Rattle.records.specs.declared.Entry.{Entry}
+use Rattle.records.specs.Entries.{Entry}
 use Rattle.records.specs.Scan.{State, start, whole, scan_sheet}
 use Rattle.syntax.specs.Concepts.{Role, named, inverse, not_r, and_r, or_r, Concept, top_c, bottom_c, name_c, not_c, and_c, or_c, exists_c, forall_c, Axiom, Node, concept_n, role_n, axiom_n, nodes_of, axiom_of, axioms_of}
 use Rattle.syntax.specs.Bounds.{All, RolesBelow, NamesBelow, EachRole, AxiomNames, AxiomRoles}

@@ -9,7 +9,7 @@ use Rattle.syntax.specs.Normal.{plain, negated, axiom_nf}
 use Rattle.syntax.specs.Flatten.{flatten_by, run_by, walk_pending_by, walk_by, meet_one, placed, shared, find_from, alike, like_exists, like_forall, same_role_lem, same_filler, same_atom, yes_no, atom, restrictions, weight, weights, name_parts_lem, pendings}
 use Rattle.syntax.specs.Reading.{read_kb, reading, admit}
 use Rattle.output.specs.Text.{text}
-use Rattle.owl_words.specs.Words.{digits, spelling, known_words, lower_forms, name_words, upper_words, property_words, same_bytes, spelled, known, skip, letters, past, front}
+use Rattle.owl_words.specs.Words.{digits, spelling, known_words, same_bytes, spelled, known, skip, letters, past, front}
 use Rattle.owl_import.specs.Grammar.{and_then, wrong_no, counted, opens, closes, one, two, property_by, role_by, concept_by, concept, axioms_by, axioms, parse}
 use Rattle.syntax.specs.Laid.{rec_bytes, laid}
 use Rattle.owl_import.specs.RecordsOf.{put_role, put_concept, put_axiom, put_axioms}
@@ -19,7 +19,7 @@ use Rattle.owl_export.specs.Export.{calls_for20, first_beyond, export_at, export
 use Rattle.owl.specs.Examples.{import_row, imports, export_row, exports}
 
 pub imports-right : map import_row imports ≡ imports
-unfolding imported importing parse axioms axioms_by concept concept_by role_by property_by one two opens closes counted wrong_no and_then front past letters skip known spelled same_bytes known_words lower_forms name_words upper_words property_words spelling digits text sheet_of laid rec_bytes put_axioms put_axiom put_concept put_role shape_of
+unfolding imported importing parse axioms axioms_by concept concept_by role_by property_by one two opens closes counted wrong_no and_then front past letters skip known spelled same_bytes known_words spelling digits text sheet_of laid rec_bytes put_axioms put_axiom put_concept put_role shape_of
 imports-right = refl
 
 pub exports-right : map export_row exports ≡ exports

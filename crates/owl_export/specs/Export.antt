@@ -2,7 +2,7 @@
 use Rattle.std.specs.Prelude.{ℕ, ◌+◌, Bool, false, cond, List, [], ◌∷◌, length}
 use Rattle.std.proofs.Math.Option.{Option, none, some}
 use Rattle.output.specs.Output.{Output, refuse, write}
-use Rattle.records.specs.declared.Entry.{Entry}
+use Rattle.records.specs.Entries.{Entry}
 use Rattle.records.specs.Scan.{Scanning, refused, whole, scan_sheet}
 use Rattle.syntax.specs.Concepts.{Node, concept_n, role_n, axiom_n, Axiom, nodes_of}
 use Rattle.syntax.specs.Reading.{Kb, Reading, refusal, kb, read_kb}

@@ -10,8 +10,8 @@ use native.Mathlib.Omega.{arith}
 use native.Mathlib.Nat.{add-zero}
 use native.Mathlib.Numerals.{add-one}
 use borrow.Author.Tests.{eqb-true, eqb-false, ltb-true, ltb-false, lt-ltb, le-ltb, le-leb, ne_eqb}
-use Rattle.records.specs.declared.Shape.{Shape}
-use Rattle.records.specs.declared.Entry.{Entry}
+use Rattle.records.specs.Shapes.{Shape}
+use Rattle.records.specs.Entries.{Entry}
 use Rattle.records.specs.Shapes.{shape_of}
 use Rattle.records.specs.Scan.{State, start, blank, record_at_lem, naming, name, fault_at_lem, body_fault, entry_for, after, body_byte_lem, shape_at, record_fault, record_after, fault_place, refused, whole, scan, scan_sheet}
 use Rattle.records.proofs.KindTable.{known_cases}

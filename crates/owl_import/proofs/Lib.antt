@@ -1,6 +1,6 @@
 pub mod Laying
-pub mod Stepping
-pub mod Importing
 pub mod Parsing
 pub mod Putting
 pub mod Counting
+pub mod Stepping
+pub mod Importing

@@ -9,8 +9,8 @@ use native.Mathlib.Omega.{arith}
 use Rattle.syntax.specs.Concepts.{Role, named, inverse, not_r, and_r, or_r, Concept, top_c, bottom_c, name_c, not_c, and_c, or_c, exists_c, forall_c, Axiom}
 use Rattle.syntax.specs.Bounds.{All, NamesBelow, EachRole, AxiomNames, AxiomRoles}
 use Rattle.owl_words.specs.declared.Word.{Word}
-use Rattle.owl_words.specs.declared.Word.TheVariants.{SubClassOf, IntersectionOf, UnionOf, ComplementOf, SomeValuesFrom, AllValuesFrom, InverseOf, Thing, Nothing, ClassNamed, PropertyNamed, Opening, Closing, Unknown, Ending}
-use Rattle.owl_words.specs.Words.{Token, token, spelling, known_words, lower_forms, name_words, upper_words, property_words, same_bytes, spelled, known, skip, letters, past, front, next}
+use Rattle.owl_words.specs.declared.Word.TheVariants.{SubClassOf, IntersectionOf, UnionOf, ComplementOf, SomeValuesFrom, AllValuesFrom, InverseOf, Thing, Nothing, ClassNamed, PropertyNamed, Opening, Closing, Ending}
+use Rattle.owl_words.specs.Words.{Token, token, spelling, known_words, same_bytes, spelled, known, skip, letters, past, front, next}
 use Rattle.owl_import.specs.Grammar.{Parsed, refused, done, and_then, counted, opens, opening, closes, closing, closed, Reader, one, two, property_by, property, role_by, role, concept_by, concept, most, axiom2, axioms_by, axioms, parse}
 use Rattle.syntax.specs.WrittenAlike.{bare, bare_axiom, bare_axioms}
 
@@ -24,21 +24,9 @@ Small (or_r u v) = ⊥
 
 -- the number in a known name
 abbrev WordLow : Word → Type 0
-WordLow SubClassOf = Unit
-WordLow IntersectionOf = Unit
-WordLow UnionOf = Unit
-WordLow ComplementOf = Unit
-WordLow SomeValuesFrom = Unit
-WordLow AllValuesFrom = Unit
-WordLow InverseOf = Unit
-WordLow Thing = Unit
-WordLow Nothing = Unit
 WordLow (ClassNamed n) = n < 12
 WordLow (PropertyNamed n) = n < 4
-WordLow Opening = Unit
-WordLow Closing = Unit
-WordLow Unknown = Unit
-WordLow Ending = Unit
+WordLow _ = Unit
 
 spelled-low : (ws : List Word) → All WordLow ws → (s : List ℕ) → WordLow (spelled ws s)
 unfolding spelled
@@ -50,7 +38,7 @@ spelled-low (w ∷ ws) h s = go (same_bytes s (spelling w)) (spelled-low ws h.1 
     go false k = k
 
 pub known-low : (s : List ℕ) → WordLow (known s)
-unfolding known known_words lower_forms name_words upper_words property_words
+unfolding known known_words
 known-low s = spelled-low known_words (omega arith) s
 
 front_low : (s : List ℕ) → WordLow (front s).word
@@ -82,39 +70,13 @@ gives_counted Q (suc room) f h = h room refl
 
 gives_opens : (room : ℕ) (t : Token) (w : Word) → Gives (λ _ r. r ≡ room) (opens t w room)
 unfolding opens
-gives_opens room t SubClassOf = tt
-gives_opens room t IntersectionOf = tt
-gives_opens room t UnionOf = tt
-gives_opens room t ComplementOf = tt
-gives_opens room t SomeValuesFrom = tt
-gives_opens room t AllValuesFrom = tt
-gives_opens room t InverseOf = tt
-gives_opens room t Thing = tt
-gives_opens room t Nothing = tt
-gives_opens room t (ClassNamed n) = tt
-gives_opens room t (PropertyNamed n) = tt
 gives_opens room t Opening = refl
-gives_opens room t Closing = tt
-gives_opens room t Unknown = tt
-gives_opens room t Ending = tt
+gives_opens room t _ = tt
 
 gives_closes : (room : ℕ) (t : Token) (w : Word) → Gives (λ _ r. r ≡ room) (closes t w room)
 unfolding closes
-gives_closes room t SubClassOf = tt
-gives_closes room t IntersectionOf = tt
-gives_closes room t UnionOf = tt
-gives_closes room t ComplementOf = tt
-gives_closes room t SomeValuesFrom = tt
-gives_closes room t AllValuesFrom = tt
-gives_closes room t InverseOf = tt
-gives_closes room t Thing = tt
-gives_closes room t Nothing = tt
-gives_closes room t (ClassNamed n) = tt
-gives_closes room t (PropertyNamed n) = tt
-gives_closes room t Opening = tt
 gives_closes room t Closing = refl
-gives_closes room t Unknown = tt
-gives_closes room t Ending = tt
+gives_closes room t _ = tt
 
 gives_closed : {A : Type 0} (Q : A → ℕ → Type 0) (a : A) (room : ℕ) (s : List ℕ) → Q a room → Gives Q (closed a room s)
 gives_closed Q a room s q =
@@ -159,21 +121,8 @@ axioms_size (a ∷ l) = axiom_size a + axioms_size l
 
 property_gives : (room : ℕ) (t : Token) (w : Word) → WordLow w → Gives (λ k r. (k < 4) × (r ≡ room)) (property_by t w room)
 unfolding property_by
-property_gives room t SubClassOf h = tt
-property_gives room t IntersectionOf h = tt
-property_gives room t UnionOf h = tt
-property_gives room t ComplementOf h = tt
-property_gives room t SomeValuesFrom h = tt
-property_gives room t AllValuesFrom h = tt
-property_gives room t InverseOf h = tt
-property_gives room t Thing h = tt
-property_gives room t Nothing h = tt
-property_gives room t (ClassNamed n) h = tt
 property_gives room t (PropertyNamed n) h = (h, refl)
-property_gives room t Opening h = tt
-property_gives room t Closing h = tt
-property_gives room t Unknown h = tt
-property_gives room t Ending h = tt
+property_gives room t _ h = tt
 
 -- a role, and how many records may begin before it and after it
 abbrev RoleTook : ℕ → Role → ℕ → Type 0
@@ -181,24 +130,12 @@ RoleTook room u after = Small u × (after + 1 ≡ room)
 
 role_gives : (room : ℕ) (t : Token) (w : Word) → WordLow w → Gives (RoleTook room) (role_by t w room)
 unfolding role_by
-role_gives room t SubClassOf h = tt
-role_gives room t IntersectionOf h = tt
-role_gives room t UnionOf h = tt
-role_gives room t ComplementOf h = tt
-role_gives room t SomeValuesFrom h = tt
-role_gives room t AllValuesFrom h = tt
 role_gives room t InverseOf h =
     gives_counted (RoleTook room) room (λ room. one property inverse room t.rest)
     (λ r e. one_gives (λ k x. (k < 4) × (x ≡ r)) (RoleTook room) property inverse r t.rest
     (λ s. property_gives r (next s) (next s).word (front_low (skip s))) (λ k x q. (q.0, omega arith)))
-role_gives room t Thing h = tt
-role_gives room t Nothing h = tt
-role_gives room t (ClassNamed n) h = tt
 role_gives room t (PropertyNamed n) h = gives_counted (RoleTook room) room (λ room. done (named n) room t.rest) (λ r e. (h, omega arith))
-role_gives room t Opening h = tt
-role_gives room t Closing h = tt
-role_gives room t Unknown h = tt
-role_gives room t Ending h = tt
+role_gives room t _ h = tt
 
 -- a concept without record numbers, and how many records may begin before it and after it
 pub record Took (room : ℕ) (c : Concept) (after : ℕ) : Type 0 where
@@ -221,7 +158,6 @@ module _ (inner : Reader Concept) (good : (room : ℕ) (s : List ℕ) → Gives 
 
   concept-by : (room : ℕ) (t : Token) (w : Word) → WordLow w → Gives (Took room) (concept_by inner t w room)
   unfolding concept_by NamesBelow EachRole bare size
-  concept-by room t SubClassOf h = tt
   concept-by room t IntersectionOf h =
       gives_counted (Took room) room (λ room. two inner inner and_c room t.rest)
       (λ r e. both and_c (λ room r x y c d e p q. record { names = (p.names, q.names); roles = (p.roles, q.roles); plain = cc; sized = omega arith }) room r t.rest e)
@@ -238,15 +174,10 @@ module _ (inner : Reader Concept) (good : (room : ℕ) (s : List ℕ) → Gives 
   concept-by room t AllValuesFrom h =
       gives_counted (Took room) room (λ room. two role inner (forall_c 0 0) room t.rest)
       (λ r e. under (forall_c 0 0) (λ room r x y u d e p q. record { names = q.names; roles = (p.0, q.roles); plain = ap (forall_c 0 0 u) q.plain; sized = omega arith }) room r t.rest e)
-  concept-by room t InverseOf h = tt
   concept-by room t Thing h = gives_counted (Took room) room (λ room. done top_c room t.rest) (λ r e. record { names = tt; roles = tt; plain = refl; sized = omega arith })
   concept-by room t Nothing h = gives_counted (Took room) room (λ room. done bottom_c room t.rest) (λ r e. record { names = tt; roles = tt; plain = refl; sized = omega arith })
   concept-by room t (ClassNamed n) h = gives_counted (Took room) room (λ room. done (name_c n) room t.rest) (λ r e. record { names = h; roles = tt; plain = refl; sized = omega arith })
-  concept-by room t (PropertyNamed n) h = tt
-  concept-by room t Opening h = tt
-  concept-by room t Closing h = tt
-  concept-by room t Unknown h = tt
-  concept-by room t Ending h = tt
+  concept-by room t _ h = tt
 
 pub concept_gives : (deep room : ℕ) (s : List ℕ) → Gives (Took room) (concept deep room s)
 unfolding concept
@@ -287,20 +218,8 @@ axioms-by others good room t SubClassOf =
     (λ c x d y p q. record { names = (p.names, q.names); roles = (p.roles, q.roles); plain = cc; sized = omega arith }))
     (λ a x s p. gives_then (AxiomsTook x) (AxiomsTook room) (others x s) (λ l room s. done (a ∷ l) room s) (good x s)
     (λ l y s q. more room x y a l p q)))
-axioms-by others good room t IntersectionOf = tt
-axioms-by others good room t UnionOf = tt
-axioms-by others good room t ComplementOf = tt
-axioms-by others good room t SomeValuesFrom = tt
-axioms-by others good room t AllValuesFrom = tt
-axioms-by others good room t InverseOf = tt
-axioms-by others good room t Thing = tt
-axioms-by others good room t Nothing = tt
-axioms-by others good room t (ClassNamed n) = tt
-axioms-by others good room t (PropertyNamed n) = tt
-axioms-by others good room t Opening = tt
-axioms-by others good room t Closing = tt
-axioms-by others good room t Unknown = tt
 axioms-by others good room t Ending = record { names = tt; roles = tt; plain = refl; sized = omega arith }
+axioms-by others good room t _ = tt
 
 axioms_gives : (many room : ℕ) (s : List ℕ) → Gives (AxiomsTook room) (axioms many room s)
 unfolding axioms

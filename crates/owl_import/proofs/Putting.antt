@@ -8,8 +8,8 @@ use lib.Seq.{get_or_at, set_at}
 use lib.Dec.{eqb, leb}
 use native.Mathlib.Omega.{arith}
 use borrow.Author.Tests.{ne_eqb, eq-eqb, lt-leb}
-use Rattle.records.specs.declared.Shape.{Shape}
-use Rattle.records.specs.declared.Entry.{Entry}
+use Rattle.records.specs.Shapes.{Shape}
+use Rattle.records.specs.Entries.{Entry}
 use Rattle.records.specs.Shapes.{shape_of, is_restriction_lem}
 use Rattle.records.specs.Scan.{State, start, blank, record_at_lem, or_else, number_fault_lem, sort_fault_lem, again_fault_lem, reference_fault_lem, naming, name, empty_fault_lem, body_fault, vacuous_of_lem, entry_for, after}
 use Rattle.syntax.specs.Concepts.{Role, named, inverse, not_r, and_r, or_r, Concept, top_c, bottom_c, name_c, not_c, and_c, or_c, exists_c, forall_c, Axiom, Node, concept_n, role_n, axiom_n, no_node, concept_at, role_at, node_of, nodes_from, nodes_of, axiom_of, axioms_of}
@@ -19,6 +19,7 @@ use Rattle.owl_import.specs.RecordsOf.{last_of, put_role, joins, put_concept, pu
 use Rattle.syntax.specs.WrittenAlike.{bare, bare_axiom, bare_axioms}
 use Rattle.owl_import.proofs.Parsing.{Small}
 use Rattle.owl_import.proofs.Parsing.{size, axioms_size}
+use Rattle.syntax.proofs.Queue.{axioms-append}
 use Rattle.owl_import.proofs.Laying.{reads-back, reach-append, follows-append}
 
 -- the trees of records
@@ -57,11 +58,6 @@ from-length ns (r ∷ x) = from-length (ns ++ (tree_of ns r ∷ [])) x ∙ rw le
 
 trees_length : (x : List Rec) → length (trees x) ≡ length x
 trees_length x = omega (arith, from-length [] x)
-
-axioms-append : (x y : List Node) → axioms_of (x ++ y) ≡ axioms_of x ++ axioms_of y
-unfolding axioms_of
-axioms-append [] y = refl
-axioms-append (n ∷ x) y = rw (axioms-append x y) (sym (append_assoc (axiom_of n) (axioms_of x) (axioms_of y)))
 
 -- the records x are rs and others behind them; the last one's tree has a property, and there is no axiom among the others
 record Stands (P : Node → Type 0) (rs x : List Rec) : Type 0 where

@@ -1,1022 +1,463 @@
--- Laws of the code's steps: what a step stands for, and how steps follow one another.
-use Prim.Native.Nat.{ℕ, zero, suc, ◌+◌, ◌-◌, ◌≤◌, ◌<◌}
-use mathlib.Core.Path.{◌≡◌, refl, sym, ap, ◌∙◌}
-use mathlib.Core.Logic.{◌⊎◌, inl, inr}
-use mathlib.Core.List.{List, [], ◌∷◌, ◌++◌, append_assoc, append-nil}
-use lib.ListN.{length, take, drop, set, length-append, length-set}
-use lib.Seq.{sets-eq, take-append-add, length-take-le}
-use native.Mathlib.Omega.{arith}
-use borrow.Author.Tests.{ne_eqb}
+-- Laws of the parser's steps: what a step stands for, and how steps follow one another.
+use Rattle.std.proofs.Common.{◌≡◌, ◌≢◌, ℕ, zero, suc, ◌+◌, ◌≤◌, ◌<◌, List, [], ◌∷◌, ◌++◌, Result, Ok, Err, refl, sym, ap, subst, ◌∙◌, arith, false, eqb, length-append, append-nil}
+use Rattle.refusals.specs.Numbers.{number}
+use Rattle.refusals.specs.declared.Refusal.{Refusal}
+use Rattle.refusals.specs.declared.Reason.TheVariants.{TooManyRecords}
 use Rattle.owl_words.specs.declared.Word.{Word}
-use Rattle.owl_words.specs.declared.Found.{Found}
 use Rattle.owl_words.specs.declared.Word.TheVariants.{SubClassOf, IntersectionOf, UnionOf, ComplementOf, SomeValuesFrom, AllValuesFrom, InverseOf, Thing, Nothing, ClassNamed, PropertyNamed, Opening, Closing, Unknown, Ending}
-use Rattle.owl_import.specs.declared.parser.Step.{Step}
-use Rattle.owl_words.specs.Words.{Token, next, Finds}
-use Rattle.owl_import.specs.Grammar.{Parsed, refused, done, and_then, wrong_no, wrong, counted, opens, opening, closes, closing, closed, Reader, one, two, property_by, property, role_by, role, concept_by, concept}
-use Rattle.records.specs.Shapes.{shape_of}
-use Rattle.syntax.specs.Concepts.{Role, named, inverse, Concept, top_c, bottom_c, name_c, not_c, and_c, or_c, exists_c, forall_c}
+use Rattle.owl_words.specs.Words.{Token, token, next}
+use Rattle.owl_import.specs.declared.parser.Parser.{Parser}
+use Rattle.owl_import.specs.declared.sheet.Sheet.{Sheet}
+use Rattle.owl_import.specs.Grammar.{Parsed, refused, done, and_then, wrong_no, wrong, counted, opens, opening, closes, closing, closed, Reader, one, two, property_by, property, role_by, role, concept_by, concept, axioms_by}
+use Rattle.syntax.specs.Concepts.{Role, named, inverse, Concept, top_c, bottom_c, name_c, not_c, and_c, or_c, exists_c, forall_c, Axiom}
 use Rattle.syntax.specs.Laid.{Rec, rec, rec_bytes, laid}
-use Rattle.owl_import.specs.RecordsOf.{last_of, put_role, joins, put_concept}
-use Rattle.owl_import.specs.Import.{place_of}
+use Rattle.owl_import.specs.RecordsOf.{put_role, joins, put_concept}
+use Rattle.records.specs.Shapes.{shape_of}
+use Rattle.std.specs.Result.{IsErrAnd}
+use Rattle.std.proofs.lemmas.Result.{err_from_is_err_and}
 use Rattle.owl_import.proofs.Laying.{laid-append}
-use Rattle.owl_import.specs.Steps.{refused_by, begun_by, moved_to, put_by, Sane, Moves, Same, Stored, Grows, Adds, Ran, code_of, number_of, wrong_code}
+use Rattle.owl_import.specs.Steps.{Stored, Wrote, Put, Reads, Next, Wrong, Expects, Opens, Moves, Stays, LeafRead, OpeningRead, ClosingRead, PropertyRead, RoleRead, ConceptRead, both, FormRead}
 
-code_wrong : (w : Word) → wrong_code (code_of w) ≡ wrong_no w
-unfolding code_of wrong_no
-code_wrong SubClassOf = refl
-code_wrong IntersectionOf = refl
-code_wrong UnionOf = refl
-code_wrong ComplementOf = refl
-code_wrong SomeValuesFrom = refl
-code_wrong AllValuesFrom = refl
-code_wrong InverseOf = refl
-code_wrong Thing = refl
-code_wrong Nothing = refl
-code_wrong (ClassNamed n) = refl
-code_wrong (PropertyNamed n) = refl
-code_wrong Opening = refl
-code_wrong Closing = refl
-code_wrong Unknown = refl
-code_wrong Ending = refl
-
-wrong_cases : (w : Word) → (wrong_no w ≡ 18) ⊎ (wrong_no w ≡ 19)
+pub wrong_other : (w : Word) → w ≢ Unknown → wrong_no w ≡ 19
 unfolding wrong_no
-wrong_cases SubClassOf = inr refl
-wrong_cases IntersectionOf = inr refl
-wrong_cases UnionOf = inr refl
-wrong_cases ComplementOf = inr refl
-wrong_cases SomeValuesFrom = inr refl
-wrong_cases AllValuesFrom = inr refl
-wrong_cases InverseOf = inr refl
-wrong_cases Thing = inr refl
-wrong_cases Nothing = inr refl
-wrong_cases (ClassNamed n) = inr refl
-wrong_cases (PropertyNamed n) = inr refl
-wrong_cases Opening = inr refl
-wrong_cases Closing = inr refl
-wrong_cases Unknown = inl refl
-wrong_cases Ending = inr refl
+wrong_other Unknown h = absurd (h refl)
+wrong_other _ h = refl
 
--- a refusal
-pub ran_wrong : {A : Type 0} (Q : A → Type 0) (text : List ℕ) (at : ℕ) (f : Found) (r : Step) → Finds text at f → r.fault ≡ wrong_code (code_of f.word) →
-    r.place ≡ f.place → Ran text (wrong (next (drop at text))) Q r
-unfolding Ran
-ran_wrong Q text at f r h e p = go (wrong_cases (next (drop at text)).word)
-  where
-    w : Word
-    w = (next (drop at text)).word
+-- only the text of the parser before counts
+pub reads_text : {A X : Type 0} (Q : A → X → Parser → Type 0) (p q : Parser) (P : Parsed A) (r : Result X Refusal) (t : Parser) → q.text.now ≡ p.text.now → Reads q P Q r t → Reads p P Q r t
+unfolding Reads
+reads_text Q p q (refused n l) (Ok x) t e h = h
+reads_text Q p q (refused n l) (Err d) t e h = (h.0, rw (← e) h.1)
+reads_text Q p q (done a room s) (Ok x) t e h = (h.0 ∙ e, h.1, h.2, h.3)
+reads_text Q p q (done a room s) (Err d) t e h = h
 
-    number : r.fault ≡ wrong_no w
-    number = e ∙ code_wrong f.word ∙ ap wrong_no h.word
+not_full : (w : Word) → eqb (wrong_no w) 3 ≡ false
+unfolding wrong_no
+not_full Unknown = refl
+not_full _ = refl
 
-    place : (n : ℕ) → (n ≡ 3 → ⊥) → r.place ≡ place_of text n (next (drop at text)).left
-    place n z = rw (ne_eqb n 3 z) (omega (arith, h.place, h.inside))
+pub reads_err : {A X Y : Type 0} (K : A → X → Parser → Type 0) (Q : A → Y → Parser → Type 0) (p : Parser) (P : Parsed A) (e : Refusal) (q t : Parser) → Reads p P K (Err e) q → Reads p P Q (Err e) t
+unfolding Reads
+reads_err K Q p (refused n l) e q t h = h
+reads_err K Q p (done a room s) e q t h = absurd h
 
-    go : (wrong_no w ≡ 18) ⊎ (wrong_no w ≡ 19) → (r.fault ≡ wrong_no w) × (wrong_no w ≡ 0 → ⊥) × (r.place ≡ place_of text (wrong_no w) (next (drop at text)).left)
-    go (inl q) = (number, (λ z. omega arith), place (wrong_no w) (λ z. omega arith))
-    go (inr q) = (number, (λ z. omega arith), place (wrong_no w) (λ z. omega arith))
+pub reads_ok : {A X Y : Type 0} (K : A → X → Parser → Type 0) (Q : A → Y → Parser → Type 0) (p : Parser) (P : Parsed A) (x : X) (y : Y) (q t : Parser) → Reads p P K (Ok x) q →
+    t.text.now ≡ q.text.now → t.room ≡ q.room → t.rest.now ≡ q.rest.now → ((a : A) → K a x q → Q a y t) → Reads p P Q (Ok y) t
+unfolding Reads
+reads_ok K Q p (refused n l) x y q t h e f g k = absurd h
+reads_ok K Q p (done a room s) x y q t h e f g k = (e ∙ h.0, f ∙ h.1, g ∙ h.2, k a h.3)
 
-pub ran_full : {A : Type 0} (Q : A → Type 0) (text : List ℕ) (r : Step) → r.fault ≡ 3 → r.place ≡ 0 → Ran {A = A} text (refused 3 0) Q r
-unfolding Ran
-ran_full Q text r e p = (e, (λ z. omega arith), p)
+module _ {A B X Y : Type 0} (K : A → X → Parser → Type 0) (Q : B → Y → Parser → Type 0) (f : A → ℕ → List ℕ → Parsed B) (p : Parser) where
+  -- a refusal stays
+  pub reads_stop : (P : Parsed A) (e : Refusal) (q t : Parser) → Reads p P K (Err e) q → Reads p (and_then P f) Q (Err e) t
+  unfolding Reads and_then
+  reads_stop (refused n l) e q t h = h
+  reads_stop (done a room s) e q t h = absurd h
 
--- a refusal stays
-pub ran_stops : {A B : Type 0} (P : A → Type 0) (Q : B → Type 0) (text : List ℕ) (p : Parsed A) (f : A → ℕ → List ℕ → Parsed B) (r : Step) → Ran text p P r →
-    (r.fault ≡ 0 → ⊥) → Ran text (and_then p f) Q r
-unfolding Ran and_then
-ran_stops P Q text (refused n l) f r h z = h
-ran_stops P Q text (done a room s) f r h z = absurd (z h.0)
+  -- one step after another
+  pub reads_then : (P : Parsed A) (x : X) (q : Parser) (r : Result Y Refusal) (t : Parser) → Reads p P K (Ok x) q →
+      ((a : A) → K a x q → Reads q (f a q.room q.rest.now) Q r t) → Reads p (and_then P f) Q r t
+  unfolding Reads and_then
+  reads_then (refused n l) x q r t h k = absurd h
+  reads_then (done a room s) x q r t h k =
+      let F : ℕ → Type 0 = λ i. Reads q (f a i q.rest.now) Q r t in
+      let G : List ℕ → Type 0 = λ l. Reads q (f a room l) Q r t in
+      reads_text Q p q (f a room s) r t h.0 (subst G h.2 (subst F h.1 (k a h.3)))
 
--- one step after another
-pub ran_then : {A B : Type 0} (P : A → Type 0) (Q : B → Type 0) (text : List ℕ) (p : Parsed A) (f : A → ℕ → List ℕ → Parsed B) (s r : Step) → Ran text p P s →
-    s.fault ≡ 0 → ((a : A) → P a → Ran text (f a s.room (drop s.at text)) Q r) → Ran text (and_then p f) Q r
-unfolding Ran and_then
-ran_then P Q text (refused n l) f s r h z k = absurd (h.1 (sym h.0 ∙ z))
-ran_then P Q text (done a room x) f s r h z k = go h.1 h.2 (k a h.3)
-  where
-    go : s.room ≡ room → drop s.at text ≡ x → Ran text (f a s.room (drop s.at text)) Q r → Ran text (f a room x) Q r
-    go e d w = rw (← e, ← d) w
+-- a record that begins, or none that may
+module _ {A Y : Type 0} (Q : A → Y → Parser → Type 0) where
+  pub begun_stop : (p : Parser) (n : ℕ) (s : List ℕ) (e : Refusal) (q t : Parser) (g : ℕ → Parsed A) →
+      Reads {B = Unit {0}} p (counted n (λ room. done (tt {0}) room s)) (λ _ _ _. Unit) (Err e) q → Reads p (counted n g) Q (Err e) t
+  unfolding Reads counted
+  begun_stop p zero s e q t g h = h
+  begun_stop p (suc n) s e q t g h = absurd h
 
-pub ran_more : {A : Type 0} (P Q : A → Type 0) (text : List ℕ) (p : Parsed A) (r : Step) → Ran text p P r → ((a : A) → P a → Q a) → Ran text p Q r
-unfolding Ran
-ran_more P Q text (refused n l) r h k = h
-ran_more P Q text (done a room x) r h k = (h.0, h.1, h.2, k a h.3)
+  pub begun_then : (p : Parser) (n : ℕ) (s : List ℕ) (x : Unit {0}) (q : Parser) (r : Result Y Refusal) (t : Parser) (g : Reader A) →
+      Reads {B = Unit {0}} p (counted n (λ room. done (tt {0}) room s)) (λ _ _ _. Unit) (Ok x) q → Reads q (g q.room q.rest.now) Q r t → Reads p (counted n (λ room. g room s)) Q r t
+  unfolding Reads counted
+  begun_then p zero s x q r t g h k = absurd h
+  begun_then p (suc n) s x q r t g h k =
+      let F : ℕ → Type 0 = λ i. Reads q (g i q.rest.now) Q r t in
+      let G : List ℕ → Type 0 = λ l. Reads q (g n l) Q r t in
+      reads_text Q p q (g n s) r t h.0 (subst G h.2 (subst F h.1 k))
 
--- parentheses
-opens_at : (t : Token) (w : Word) (room : ℕ) → code_of w ≡ 40 → opens t w room ≡ done tt room t.rest
-unfolding opens code_of
-opens_at t SubClassOf room h = absurd (omega arith)
-opens_at t IntersectionOf room h = absurd (omega arith)
-opens_at t UnionOf room h = absurd (omega arith)
-opens_at t ComplementOf room h = absurd (omega arith)
-opens_at t SomeValuesFrom room h = absurd (omega arith)
-opens_at t AllValuesFrom room h = absurd (omega arith)
-opens_at t InverseOf room h = absurd (omega arith)
-opens_at t Thing room h = absurd (omega arith)
-opens_at t Nothing room h = absurd (omega arith)
-opens_at t (ClassNamed n) room h = absurd (omega arith)
-opens_at t (PropertyNamed n) room h = absurd (omega arith)
-opens_at t Opening room h = refl
-opens_at t Closing room h = absurd (omega arith)
-opens_at t Unknown room h = absurd (omega arith)
-opens_at t Ending room h = absurd (omega arith)
+pub begins : (p q : Parser) (n : ℕ) (s : List ℕ) → n ≡ suc q.room → q.text.now ≡ p.text.now → q.rest.now ≡ s →
+    Reads p (counted n (λ room. done (tt {0}) room s)) (λ _ _ _. Unit) (Ok (tt {0})) q
+unfolding Reads counted
+begins p q zero s e f g = absurd (omega arith)
+begins p q (suc n) s e f g = (f, omega arith, g, tt)
 
-opens_not : (t : Token) (w : Word) (room : ℕ) → (code_of w ≡ 40 → ⊥) → opens t w room ≡ wrong t
-unfolding opens code_of
-opens_not t SubClassOf room h = refl
-opens_not t IntersectionOf room h = refl
-opens_not t UnionOf room h = refl
-opens_not t ComplementOf room h = refl
-opens_not t SomeValuesFrom room h = refl
-opens_not t AllValuesFrom room h = refl
-opens_not t InverseOf room h = refl
-opens_not t Thing room h = refl
-opens_not t Nothing room h = refl
-opens_not t (ClassNamed n) room h = refl
-opens_not t (PropertyNamed n) room h = refl
+pub full : (p q : Parser) (n : ℕ) (s : List ℕ) (e : Refusal) → n ≡ 0 → e.reason ≡ TooManyRecords → e.place ≡ 0 →
+    Reads {B = Unit {0}} p (counted n (λ room. done (tt {0}) room s)) (λ _ _ _. Unit) (Err e) q
+unfolding Reads counted
+full p q zero s e z f g = (ap number f, g)
+full p q (suc n) s e z f g = absurd (omega arith)
+
+-- a record written behind those that were there
+pub written : (bytes : List ℕ) (s m : Sheet) (x : ℕ) (t : Sheet) → m ≡ s → t.bytes.items ≡ m.bytes.items ++ bytes → t.count ≡ m.count + 1 → x ≡ m.count → Put bytes s x t
+written bytes s m x t same b c n = let F : Sheet → Type 0 = λ v. Put bytes v x t in subst F same (record { bytes = b; count = c; number = n })
+
+-- what is made of a record that begins
+pub counted_then : {A B : Type 0} (n : ℕ) (g : ℕ → Parsed A) (f : A → ℕ → List ℕ → Parsed B) → and_then (counted n g) f ≡ counted n (λ room. and_then (g room) f)
+unfolding counted and_then
+counted_then zero g f = refl
+counted_then (suc n) g f = refl
+
+-- the next word
+module _ (p : Parser) (r : Word × ℕ) (q : Parser) (n : Next p r q) where
+  pub next_then : {A X : Type 0} (Q : A → X → Parser → Type 0) (G : Token → Word → ℕ → Parsed A) (w : Word) (a : Result X Refusal) (t : Parser) → r.0 ≡ w →
+      Reads q (G (token w (next p.rest.now).left q.rest.now) w q.room) Q a t → Reads p (G (next p.rest.now) (next p.rest.now).word p.room) Q a t
+  next_then Q G w a t e h =
+      let l = (next p.rest.now).left in
+      let F : Word → Type 0 = λ v. Reads q (G (token v l q.rest.now) v q.room) Q a t in
+      let H : List ℕ → Type 0 = λ s. Reads q (G (token (next p.rest.now).word l s) (next p.rest.now).word q.room) Q a t in
+      let I : ℕ → Type 0 = λ m. Reads q (G (next p.rest.now) (next p.rest.now).word m) Q a t in
+      reads_text Q p q _ a t n.text (subst I n.room (subst H n.rest (subst F (sym e ∙ n.word) h)))
+
+  pub next_wrong : {A X : Type 0} (Q : A → X → Parser → Type 0) (e : Refusal) (t : Parser) → Wrong r.0 r.1 e → Reads {B = X} q (refused (wrong_no r.0) (next p.rest.now).left) Q (Err e) t
+  unfolding Reads
+  next_wrong Q e t w = (w.number, w.place ∙ n.place ∙ rw (not_full r.0, n.text))
+
+opens_not : (t : Token) (w : Word) (room : ℕ) → w ≢ Opening → opens t w room ≡ wrong t
+unfolding opens
 opens_not t Opening room h = absurd (h refl)
-opens_not t Closing room h = refl
-opens_not t Unknown room h = refl
-opens_not t Ending room h = refl
+opens_not t _ room h = refl
 
-closes_at : (t : Token) (w : Word) (room : ℕ) → code_of w ≡ 41 → closes t w room ≡ done tt room t.rest
-unfolding closes code_of
-closes_at t SubClassOf room h = absurd (omega arith)
-closes_at t IntersectionOf room h = absurd (omega arith)
-closes_at t UnionOf room h = absurd (omega arith)
-closes_at t ComplementOf room h = absurd (omega arith)
-closes_at t SomeValuesFrom room h = absurd (omega arith)
-closes_at t AllValuesFrom room h = absurd (omega arith)
-closes_at t InverseOf room h = absurd (omega arith)
-closes_at t Thing room h = absurd (omega arith)
-closes_at t Nothing room h = absurd (omega arith)
-closes_at t (ClassNamed n) room h = absurd (omega arith)
-closes_at t (PropertyNamed n) room h = absurd (omega arith)
-closes_at t Opening room h = absurd (omega arith)
-closes_at t Closing room h = refl
-closes_at t Unknown room h = absurd (omega arith)
-closes_at t Ending room h = absurd (omega arith)
+closes_not : (t : Token) (w : Word) (room : ℕ) → w ≢ Closing → closes t w room ≡ wrong t
+unfolding closes
+closes_not t Closing room h = absurd (h refl)
+closes_not t _ room h = refl
 
-closes-not : (t : Token) (w : Word) (room : ℕ) → (code_of w ≡ 41 → ⊥) → closes t w room ≡ wrong t
-unfolding closes code_of
-closes-not t SubClassOf room h = refl
-closes-not t IntersectionOf room h = refl
-closes-not t UnionOf room h = refl
-closes-not t ComplementOf room h = refl
-closes-not t SomeValuesFrom room h = refl
-closes-not t AllValuesFrom room h = refl
-closes-not t InverseOf room h = refl
-closes-not t Thing room h = refl
-closes-not t Nothing room h = refl
-closes-not t (ClassNamed n) room h = refl
-closes-not t (PropertyNamed n) room h = refl
-closes-not t Opening room h = refl
-closes-not t Closing room h = absurd (h refl)
-closes-not t Unknown room h = refl
-closes-not t Ending room h = refl
+pub opening_reads : (p : Parser) (r : Result Unit Refusal) (q : Parser) → Expects Opening p r q → Reads p (opening p.room p.rest.now) (λ _ _ t. t.sheet ≡ p.sheet) r q
+unfolding Reads Expects opens
+opening_reads p (Ok x) q n = rw (← n.word) (n.text, n.room, n.rest, n.sheet)
+opening_reads p (Err e) q h = rw (opens_not (next p.rest.now) (next p.rest.now).word p.room h.0) (h.1.number, h.1.place ∙ rw (not_full (next p.rest.now).word))
 
-module _ (text : List ℕ) (s : Step) (f : Found) (r : Step) (h : Finds text s.at f) (sane : Sane text s) where
-  moved_moves : r ≡ moved_to s f.next → Moves text s r
-  moved_moves e = rw e (record { at = h.within; few = omega arith; room = omega arith; written = sane.written })
+pub closing_reads : (p : Parser) (r : Result Unit Refusal) (q : Parser) → Expects Closing p r q → Reads p (closing p.room p.rest.now) (λ _ _ t. t.sheet ≡ p.sheet) r q
+unfolding Reads Expects closes
+closing_reads p (Ok x) q n = rw (← n.word) (n.text, n.room, n.rest, n.sheet)
+closing_reads p (Err e) q h = rw (closes_not (next p.rest.now) (next p.rest.now).word p.room h.0) (h.1.number, h.1.place ∙ rw (not_full (next p.rest.now).word))
 
-  pub refused_moves : (n p : ℕ) → r ≡ refused_by s n p → Moves text s r
-  refused_moves n p e = rw e (record { at = sane.at; few = omega arith; room = omega arith; written = sane.written })
-
-  pub opening_yes : code_of f.word ≡ 40 → r ≡ moved_to s f.next → Moves text s r × Ran text (opening s.room (drop s.at text)) (λ _. Same s r) r
-  unfolding Ran
-  opening_yes c e = (
-    moved_moves e,
-    rw (opens_at (next (drop s.at text)) (next (drop s.at text)).word s.room (rw h.word at c), e) (refl, refl, h.rest, (refl, refl)),
-  )
-
-  pub closing_yes : code_of f.word ≡ 41 → r ≡ moved_to s f.next → Moves text s r × Ran text (closing s.room (drop s.at text)) (λ _. Same s r) r
-  unfolding Ran
-  closing_yes c e = (
-    moved_moves e,
-    rw (closes_at (next (drop s.at text)) (next (drop s.at text)).word s.room (rw h.word at c), e) (refl, refl, h.rest, (refl, refl)),
-  )
-
-  pub opening_no : (code_of f.word ≡ 40 → ⊥) → r ≡ refused_by s (wrong_code (code_of f.word)) f.place →
-      Moves text s r × Ran text (opening s.room (drop s.at text)) (λ _. Same s r) r
-  opening_no c e = (
-    refused_moves (wrong_code (code_of f.word)) f.place e,
-    rw (opens_not (next (drop s.at text)) (next (drop s.at text)).word s.room (rw h.word at c))
-        (ran_wrong (λ _. Same s r) text s.at f r h (ap (λ (x : Step). x.fault) e) (ap (λ (x : Step). x.place) e)),
-  )
-
-  pub closing_no : (code_of f.word ≡ 41 → ⊥) → r ≡ refused_by s (wrong_code (code_of f.word)) f.place →
-      Moves text s r × Ran text (closing s.room (drop s.at text)) (λ _. Same s r) r
-  closing_no c e = (
-    refused_moves (wrong_code (code_of f.word)) f.place e,
-    rw (closes-not (next (drop s.at text)) (next (drop s.at text)).word s.room (rw h.word at c))
-        (ran_wrong (λ _. Same s r) text s.at f r h (ap (λ (x : Step). x.fault) e) (ap (λ (x : Step). x.place) e)),
-  )
-
--- three bytes stored at a place
-three_set : (l : List ℕ) (w k a b : ℕ) → w + 2 < length l → set (set (set l w k) (w + 1) a) (w + 2) b ≡ take w l ++ (k ∷ a ∷ b ∷ drop (suc (suc (suc w))) l)
-three_set l w k a b h =
-    let e : w + 1 ≡ suc w = omega arith in
-    let f : w + 2 ≡ suc (suc w) = omega arith in
-    let g : w + 3 ≡ suc (suc (suc w)) = omega arith in
-    rw (e, f, ← g) (sets-eq (k ∷ a ∷ b ∷ []) l w (omega arith) ∙ append_assoc (take w l) (k ∷ a ∷ b ∷ []) (drop (w + 3) l))
-
-take_three : (p x : List ℕ) (k a b body : ℕ) → body ≤ 2 → take (length p + 1 + body) (p ++ (k ∷ a ∷ b ∷ x)) ≡ p ++ (k ∷ take body (a ∷ b ∷ []))
-take_three p x k a b body h = let e : length p + 1 + body ≡ length p + suc body = omega arith in rw (e) (take-append-add p (k ∷ a ∷ b ∷ x) (suc body) ∙ ap (λ (l : List ℕ). p ++ (k ∷ l)) (go body h))
-  where
-    go : (n : ℕ) → n ≤ 2 → take n (a ∷ b ∷ x) ≡ take n (a ∷ b ∷ [])
-    go zero h = refl
-    go (suc zero) h = refl
-    go (suc (suc zero)) h = refl
-    go (suc (suc (suc n))) h = absurd (omega arith)
-
--- a record written
-pub stored_put : (s : Step) (before : List ℕ) (k a b body : ℕ) → s.written + 2 < length before → body ≤ 2 →
-    Adds k a b body s (put_by s body) before (set (set (set before s.written k) (s.written + 1) a) (s.written + 2) b)
-unfolding laid rec_bytes
-stored_put s before k a b body h l rs e st =
+-- a record that is written
+pub stored_put : (rs : List Rec) (k a b : ℕ) (bytes : List ℕ) (s : Sheet) (x : ℕ) (t : Sheet) → Stored rs s → bytes ≡ rec_bytes (rec k a b) → Put bytes s x t → Wrote (rs ++ (rec k a b ∷ [])) x t
+unfolding laid
+stored_put rs k a b bytes s x t st e w =
     record {
-      count = omega (arith, st.count, length-append rs (rec k a b ∷ []));
-      bytes = bytes;
-      size = simp length-set st.size;
+      stored = record {
+        count = length-append rs (rec k a b ∷ []) ∙ omega (arith, st.count, w.count);
+        bytes = w.bytes ∙ rw (st.bytes, e, laid-append rs (rec k a b ∷ []), append-nil);
+      };
+      last = omega (arith, w.number, st.count, length-append rs (rec k a b ∷ []));
     }
+
+pub reads_more : {A X : Type 0} (K Q : A → X → Parser → Type 0) (p : Parser) (P : Parsed A) (r : Result X Refusal) (t : Parser) → Reads p P K r t → ((a : A) (x : X) → K a x t → Q a x t) → Reads p P Q r t
+unfolding Reads
+reads_more K Q p (refused n l) (Ok x) t h k = h
+reads_more K Q p (refused n l) (Err e) t h k = h
+reads_more K Q p (done a room s) (Ok x) t h k = (h.0, h.1, h.2, k a x h.3)
+reads_more K Q p (done a room s) (Err e) t h k = h
+
+pub reads_done : {A X : Type 0} (Q : A → X → Parser → Type 0) (a : A) (x : X) (q t : Parser) → t.text.now ≡ q.text.now → t.room ≡ q.room → t.rest.now ≡ q.rest.now → Q a x t →
+    Reads q (done a q.room q.rest.now) Q (Ok x) t
+unfolding Reads
+reads_done Q a x q t e f g h = (e, f, g, h)
+
+pub opens_stays : (p m q : Parser) → Opens p m → Stays m q → Opens p q
+opens_stays p m q o s =
+    let c : q.sheet.count ≡ m.sheet.count = ap (λ (v : Sheet). v.count) s.sheet in
+    record { few = omega (arith, o.few, s.room); room = omega (arith, o.room, s.room); sheet = s.sheet ∙ o.sheet }
+
+pub property_other : (t : Token) (w : Word) (room : ℕ) → ((n : ℕ) → w ≢ PropertyNamed n) → property_by t w room ≡ wrong t
+unfolding property_by
+property_other t (PropertyNamed n) room a = absurd (a n refl)
+property_other t _ room a = refl
+
+pub role_other : (t : Token) (w : Word) (room : ℕ) → ((n : ℕ) → w ≢ PropertyNamed n) → (w ≢ InverseOf) → role_by t w room ≡ wrong t
+unfolding role_by
+role_other t InverseOf room a b = absurd (b refl)
+role_other t (PropertyNamed n) room a b = absurd (a n refl)
+role_other t _ room a b = refl
+
+pub concept_other : (inner : Reader Concept) (t : Token) (w : Word) (room : ℕ) → (w ≢ Thing) → (w ≢ Nothing) → ((n : ℕ) → w ≢ ClassNamed n) → (w ≢ ComplementOf) → (w ≢ IntersectionOf) → (w ≢ UnionOf) → (w ≢ SomeValuesFrom) → (w ≢ AllValuesFrom) → concept_by inner t w room ≡ wrong t
+unfolding concept_by
+concept_other inner t IntersectionOf room a b c d e f g h = absurd (e refl)
+concept_other inner t UnionOf room a b c d e f g h = absurd (f refl)
+concept_other inner t ComplementOf room a b c d e f g h = absurd (d refl)
+concept_other inner t SomeValuesFrom room a b c d e f g h = absurd (g refl)
+concept_other inner t AllValuesFrom room a b c d e f g h = absurd (h refl)
+concept_other inner t Thing room a b c d e f g h = absurd (a refl)
+concept_other inner t Nothing room a b c d e f g h = absurd (b refl)
+concept_other inner t (ClassNamed n) room a b c d e f g h = absurd (c n refl)
+concept_other inner t _ room a b c d e f g h = refl
+
+pub axioms_other : (inner : Reader (List Axiom)) (t : Token) (w : Word) (room : ℕ) → (w ≢ Ending) → (w ≢ SubClassOf) → axioms_by inner t w room ≡ wrong t
+unfolding axioms_by
+axioms_other inner t SubClassOf room a b = absurd (b refl)
+axioms_other inner t Ending room a b = absurd (a refl)
+axioms_other inner t _ room a b = refl
+
+-- what the exit of a `?` answers
+pub leaves : {T E : Type 0} (r : Result T E) (d : E) → IsErrAnd r (λ y. y ≡ d) → r ≡ Err d
+leaves r d h = let p = err_from_is_err_and r h in p.1 ∙ ap Err p.2
+
+pub leaf_reads : {A : Type 0} (Q : A → ℕ → Parser → Type 0) (v : A) (bytes : List ℕ) (p : Parser) (r : Result ℕ Refusal) (q : Parser) → LeafRead bytes p r q →
+    ((x : ℕ) → Put bytes p.sheet x q.sheet → Q v x q) → Reads p (counted p.room (λ room. done v room p.rest.now)) Q r q
+unfolding Reads counted
+leaf_reads Q v bytes p r q h k = go p.room r h
   where
-    w : ℕ
-    w = s.written
+    go : (n : ℕ) (r : Result ℕ Refusal) → Reads p (counted n (λ room. done (tt {0}) room p.rest.now)) (λ _ x t. Put bytes p.sheet x t.sheet) r q →
+        Reads p (counted n (λ room. done v room p.rest.now)) Q r q
+    go zero (Ok x) h = h
+    go zero (Err e) h = h
+    go (suc n) (Ok x) h = (h.0, h.1, h.2, k x h.3)
+    go (suc n) (Err e) h = h
 
-    p : List ℕ
-    p = take w before
-
-    n : length p ≡ w
-    n = length-take-le w before (omega arith)
-
-    bytes : take (w + 1 + body) (set (set (set before w k) (w + 1) a) (w + 2) b) ≡ laid (rs ++ (rec k a b ∷ []))
-    bytes =
-        rw (three_set before w k a b h, laid-append rs (rec k a b ∷ []), append-nil, e, ← st.bytes)
-        (ap (λ (i : ℕ). take (i + 1 + body) (p ++ (k ∷ a ∷ b ∷ drop (suc (suc (suc w))) before))) (sym n) ∙
-        take_three p (drop (suc (suc (suc w))) before) k a b body l)
-
--- closing a form
-module _ (text : List ℕ) (k a b body : ℕ) (s : Step) (before after : List ℕ) where
-  abbrev pub Finished : Step → Type 0
-  Finished r = Grows text s r × Ran text (closing s.room (drop s.at text)) (λ _. Adds k a b body s r before after) r
-
-  abbrev Closed : Step → Type 0
-  Closed e = Moves text s e × Ran text (closing s.room (drop s.at text)) (λ _. Same s e) e
-
-  grow : (r : Step) → Moves text s r → Grows text s r
-  grow r m = record { at = m.at; few = omega (arith, m.few); room = m.room; written = m.written }
-
-  pub finish_stops : (r : Step) → Closed r → (r.fault ≡ 0 → ⊥) → Finished r
-  unfolding Ran
-  finish_stops r h z = (grow r h.0, go (closing s.room (drop s.at text)) h.1)
-    where
-      go : (p : Parsed Unit) → Ran text p (λ _. Same s r) r → Ran text p (λ _. Adds k a b body s r before after) r
-      go (refused n l) q = q
-      go (done u room x) q = absurd (z q.0)
-
-  pub finish_puts : (e r : Step) → Closed e → e.fault ≡ 0 → Sane text s × (s.count ≤ 254) × (body ≤ 2) → length before ≡ 765 →
-      (r ≡ put_by e body) × (after ≡ set (set (set before e.written k) (e.written + 1) a) (e.written + 2) b) → Finished r
-  unfolding Ran
-  finish_puts e r h z p l q = (made, go (closing s.room (drop s.at text)) h.1)
-    where
-      m : Moves text s e
-      m = h.0
-
-      made : Grows text s r
-      made = rw q.0 (record { at = m.at; few = omega (arith, m.few); room = m.room; written = omega (arith, m.written, p.2) })
-
-      adds : Same s e → Adds k a b body s r before after
-      adds same rs y st =
-          rw (q.0, q.1)
-          (stored_put e before k a b body (omega (arith, p.0.few, p.0.written, p.1, same.1, l)) p.2 rs y
-          (record { count = st.count ∙ sym same.0; bytes = rw same.1 st.bytes; size = st.size }))
-
-      go : (p : Parsed Unit) → Ran text p (λ _. Same s e) e → Ran text p (λ _. Adds k a b body s r before after) r
-      go (refused n l) w = absurd (w.1 (sym w.0 ∙ z))
-      go (done u room x) w = (ap (λ (t : Step). t.fault) q.0, ap (λ (t : Step). t.room) q.0 ∙ w.1, rw q.0 w.2, adds w.3)
-
-pub closed_same : (text : List ℕ) (s e : Step) → Moves text s e × Ran text (closing s.room (drop s.at text)) (λ _. Same s e) e → e.fault ≡ 0 → Same s e
-unfolding Ran
-closed_same text s e h z = go (closing s.room (drop s.at text)) h.1
+pub closed_reads : {A : Type 0} (Q : A → ℕ → Parser → Type 0) (v : A) (bytes : List ℕ) (p : Parser) (r : Result ℕ Refusal) (q : Parser) → ClosingRead bytes p r q →
+    ((x : ℕ) → Put bytes p.sheet x q.sheet → Q v x q) → Reads p (closed v p.room p.rest.now) Q r q
+unfolding Reads and_then
+closed_reads Q v bytes p r q h k = go (closing p.room p.rest.now) r h
   where
-    go : (p : Parsed Unit) → Ran text p (λ _. Same s e) e → Same s e
-    go (refused n l) w = absurd (w.1 (sym w.0 ∙ z))
-    go (done u room x) w = w.3
+    go : (P : Parsed (Unit {0})) (r : Result ℕ Refusal) → Reads p P (λ _ x t. Put bytes p.sheet x t.sheet) r q → Reads p (and_then P (λ _ room s. done v room s)) Q r q
+    go (refused n l) (Ok x) h = h
+    go (refused n l) (Err e) h = h
+    go (done a room s) (Ok x) h = (h.0, h.1, h.2, k x h.3)
+    go (done a room s) (Err e) h = h
 
--- what is made once a form is closed
-pub closed_ran : {A : Type 0} (P : Type 0) (Q : A → Type 0) (text : List ℕ) (v : A) (room : ℕ) (x : List ℕ) (r : Step) → Ran text (closing room x) (λ _. P) r → (P → Q v) →
-    Ran text (closed v room x) Q r
-unfolding Ran and_then
-closed_ran P Q text v room x r h k = go (closing room x) h
-  where
-    go : (p : Parsed Unit) → Ran text p (λ _. P) r → Ran text (and_then p (λ _ room s. done v room s)) Q r
-    go (refused n l) w = w
-    go (done u room x) w = (w.0, w.1, w.2, k w.3)
+-- a form that begins
+module _ {A : Type 0} (Q : A → ℕ → Parser → Type 0) (f : Unit {0} → ℕ → List ℕ → Parsed A) (p : Parser) where
+  form_stop : (e : Refusal) (o t : Parser) → OpeningRead p (Err e) o → Reads p (counted p.room (λ room. and_then (opening room p.rest.now) f)) Q (Err e) t
+  form_stop e o t h =
+      let F : Parsed A → Type 0 = λ P. Reads p P Q (Err e) t in
+      subst F (counted_then p.room (λ room. opening room p.rest.now) f) (reads_stop _ Q f p _ e o t h)
 
--- a form whose word was counted: b goes on behind the word
-module _ {A : Type 0} (Q : A → Type 0) (text : List ℕ) (s b : Step) (f : Found) (h : Finds text s.at f) (p : Parsed A) where
-  pub form_full : (g : ℕ → Parsed A) → p ≡ counted s.room g → s.room ≡ 0 → (r : Step) → r ≡ refused_by s 3 0 → Ran text p Q r
-  unfolding counted
-  form_full g e z r q = rw (e, z) (ran_full Q text r (ap (λ (x : Step). x.fault) q) (ap (λ (x : Step). x.place) q))
+  form_then : (u : Unit {0}) (o : Parser) (r : Result ℕ Refusal) (t : Parser) → OpeningRead p (Ok u) o → ((a : Unit {0}) → Reads o (f a o.room o.rest.now) Q r t) →
+      Reads p (counted p.room (λ room. and_then (opening room p.rest.now) f)) Q r t
+  form_then u o r t h k =
+      let F : Parsed A → Type 0 = λ P. Reads p P Q r t in
+      subst F (counted_then p.room (λ room. opening room p.rest.now) f) (reads_then _ Q f p _ u o r t h (λ a _. k a))
 
-  pub form_ran : (g : Reader A) → p ≡ counted s.room (λ room. g room (next (drop s.at text)).rest) → b ≡ begun_by s f.next → 1 ≤ s.room → (r : Step) →
-      Ran text (g b.room (drop b.at text)) Q r → Ran text p Q r
-  unfolding counted
-  form_ran g e q l r w = rw (e, room-is) (rw (ap (λ (x : Step). x.room) q, ap (λ (x : Step). x.at) q, h.rest) at w)
-    where
-      room-is : s.room ≡ suc (s.room - 1)
-      room-is = omega arith
-
--- roles, by the word's code
-role-name : (t : Token) (w : Word) (room : ℕ) → code_of w ≡ 16 → role_by t w room ≡ counted room (λ room. done (named (number_of w)) room t.rest)
-unfolding role_by code_of number_of
-role-name t SubClassOf room h = absurd (omega arith)
-role-name t IntersectionOf room h = absurd (omega arith)
-role-name t UnionOf room h = absurd (omega arith)
-role-name t ComplementOf room h = absurd (omega arith)
-role-name t SomeValuesFrom room h = absurd (omega arith)
-role-name t AllValuesFrom room h = absurd (omega arith)
-role-name t InverseOf room h = absurd (omega arith)
-role-name t Thing room h = absurd (omega arith)
-role-name t Nothing room h = absurd (omega arith)
-role-name t (ClassNamed n) room h = absurd (omega arith)
-role-name t (PropertyNamed n) room h = refl
-role-name t Opening room h = absurd (omega arith)
-role-name t Closing room h = absurd (omega arith)
-role-name t Unknown room h = absurd (omega arith)
-role-name t Ending room h = absurd (omega arith)
-
-role-inverse : (t : Token) (w : Word) (room : ℕ) → code_of w ≡ 17 → role_by t w room ≡ counted room (λ room. one property inverse room t.rest)
-unfolding role_by code_of
-role-inverse t SubClassOf room h = absurd (omega arith)
-role-inverse t IntersectionOf room h = absurd (omega arith)
-role-inverse t UnionOf room h = absurd (omega arith)
-role-inverse t ComplementOf room h = absurd (omega arith)
-role-inverse t SomeValuesFrom room h = absurd (omega arith)
-role-inverse t AllValuesFrom room h = absurd (omega arith)
-role-inverse t InverseOf room h = refl
-role-inverse t Thing room h = absurd (omega arith)
-role-inverse t Nothing room h = absurd (omega arith)
-role-inverse t (ClassNamed n) room h = absurd (omega arith)
-role-inverse t (PropertyNamed n) room h = absurd (omega arith)
-role-inverse t Opening room h = absurd (omega arith)
-role-inverse t Closing room h = absurd (omega arith)
-role-inverse t Unknown room h = absurd (omega arith)
-role-inverse t Ending room h = absurd (omega arith)
-
-role_other : (t : Token) (w : Word) (room : ℕ) → (code_of w ≡ 16 → ⊥) → (code_of w ≡ 17 → ⊥) → role_by t w room ≡ wrong t
-unfolding role_by code_of
-role_other t SubClassOf room h k = refl
-role_other t IntersectionOf room h k = refl
-role_other t UnionOf room h k = refl
-role_other t ComplementOf room h k = refl
-role_other t SomeValuesFrom room h k = refl
-role_other t AllValuesFrom room h k = refl
-role_other t InverseOf room h k = absurd (k refl)
-role_other t Thing room h k = refl
-role_other t Nothing room h k = refl
-role_other t (ClassNamed n) room h k = refl
-role_other t (PropertyNamed n) room h k = absurd (h refl)
-role_other t Opening room h k = refl
-role_other t Closing room h k = refl
-role_other t Unknown room h k = refl
-role_other t Ending room h k = refl
-
-property-name : (t : Token) (w : Word) (room : ℕ) → code_of w ≡ 16 → property_by t w room ≡ done (number_of w) room t.rest
-unfolding property_by code_of number_of
-property-name t SubClassOf room h = absurd (omega arith)
-property-name t IntersectionOf room h = absurd (omega arith)
-property-name t UnionOf room h = absurd (omega arith)
-property-name t ComplementOf room h = absurd (omega arith)
-property-name t SomeValuesFrom room h = absurd (omega arith)
-property-name t AllValuesFrom room h = absurd (omega arith)
-property-name t InverseOf room h = absurd (omega arith)
-property-name t Thing room h = absurd (omega arith)
-property-name t Nothing room h = absurd (omega arith)
-property-name t (ClassNamed n) room h = absurd (omega arith)
-property-name t (PropertyNamed n) room h = refl
-property-name t Opening room h = absurd (omega arith)
-property-name t Closing room h = absurd (omega arith)
-property-name t Unknown room h = absurd (omega arith)
-property-name t Ending room h = absurd (omega arith)
-
-property_other : (t : Token) (w : Word) (room : ℕ) → (code_of w ≡ 16 → ⊥) → property_by t w room ≡ wrong t
-unfolding property_by code_of
-property_other t SubClassOf room h = refl
-property_other t IntersectionOf room h = refl
-property_other t UnionOf room h = refl
-property_other t ComplementOf room h = refl
-property_other t SomeValuesFrom room h = refl
-property_other t AllValuesFrom room h = refl
-property_other t InverseOf room h = refl
-property_other t Thing room h = refl
-property_other t Nothing room h = refl
-property_other t (ClassNamed n) room h = refl
-property_other t (PropertyNamed n) room h = absurd (h refl)
-property_other t Opening room h = refl
-property_other t Closing room h = refl
-property_other t Unknown room h = refl
-property_other t Ending room h = refl
-
--- what is known of a begun form
-pub begun_sane : (text : List ℕ) (s b : Step) (f : Found) → Finds text s.at f → Sane text s → 1 ≤ s.room → b ≡ begun_by s f.next → Sane text b × (b.count + b.room ≤ 254)
-begun_sane text s b f h sane l e =
-    let n = sane.few in
-    rw e (record { at = h.within; few = omega arith; written = sane.written }, omega arith)
-
-pub moved_sane : (text : List ℕ) (b o e : Step) (v : Found) → Sane text b × (b.count + b.room ≤ 254) → Moves text b o → Finds text o.at v → e ≡ moved_to o v.next →
-    Sane text e × (e.count ≤ 254) × (◌≤◌ 1 2)
-moved_sane text b o e v h m f q = rw q (record { at = f.within; few = omega (arith, m.few, h.1); written = m.written }, omega (arith, m.few, h.1), omega arith)
-
--- a refusal's number is not 0
-not-zero : (o r : Step) (v : Found) → r ≡ refused_by o (wrong_code (code_of v.word)) v.place → r.fault ≡ 0 → ⊥
-not-zero o r v q w = go (wrong_cases v.word) (sym (code_wrong v.word) ∙ sym (ap (λ (x : Step). x.fault) q) ∙ w)
-  where
-    go : (wrong_no v.word ≡ 18) ⊎ (wrong_no v.word ≡ 19) → wrong_no v.word ≡ 0 → ⊥
-    go (inl c) z = omega arith
-    go (inr c) z = omega arith
-
-found_name : (text : List ℕ) (o : Step) (v : Found) (e : Step) (n : ℕ) → Finds text o.at v → code_of v.word ≡ 16 → n ≡ number_of v.word → e ≡ moved_to o v.next →
-    Ran text (property o.room (drop o.at text)) (λ k. k ≡ n) e
-unfolding Ran
-found_name text o v e n h y m q =
-    rw (property-name (next (drop o.at text)) (next (drop o.at text)).word o.room (rw h.word at y), q) (refl, refl, h.rest, rw (← h.word) (sym m))
-
-abbrev pub RoleRead : List ℕ → Step → List ℕ → Step → List ℕ → Type 0
-RoleRead text s before r after =
-    Moves text s r × ((rs : List Rec) → Stored rs s before → Ran text (role s.room (drop s.at text)) (λ u. Stored (put_role rs u) r after) r)
-
-module _ (text : List ℕ) (s : Step) (before : List ℕ) (f : Found) (h : Finds text s.at f) (sane : Sane text s) where
-  word-is : (k : ℕ) → code_of f.word ≡ k → code_of (next (drop s.at text)).word ≡ k
-  word-is k e = rw h.word at e
-
-  word-not : (k : ℕ) → (code_of f.word ≡ k → ⊥) → code_of (next (drop s.at text)).word ≡ k → ⊥
-  word-not k e = rw h.word at e
-
-  stays : (r : Step) (n p : ℕ) → r ≡ refused_by s n p → Moves text s r
-  stays r n p e = rw e (record { at = sane.at; few = omega arith; room = omega arith; written = sane.written })
-
-  abbrev tok : Token
-  tok = next (drop s.at text)
-
-  pub role-wrong : (r : Step) (after : List ℕ) → (code_of f.word ≡ 16 → ⊥) → (code_of f.word ≡ 17 → ⊥) → r ≡ refused_by s (wrong_code (code_of f.word)) f.place → RoleRead text s before r after
-  role-wrong r after x y e = (
-    stays r (wrong_code (code_of f.word)) f.place e,
-    λ rs st. rw (role_other tok tok.word s.room (word-not 16 x) (word-not 17 y))
-        (ran_wrong (λ u. Stored (put_role rs u) r after) text s.at f r h (ap (λ (x : Step). x.fault) e) (ap (λ (x : Step). x.place) e)),
-  )
-
-  pub role-full-name : (r : Step) (after : List ℕ) → code_of f.word ≡ 16 → s.room ≡ 0 → r ≡ refused_by s 3 0 → RoleRead text s before r after
-  role-full-name r after x z e = (
-    stays r 3 0 e,
-    λ rs st.
-        form_full (λ u. Stored (put_role rs u) r after) text s s f h (role s.room (drop s.at text)) (λ room. done (named (number_of tok.word)) room tok.rest)
-        (role-name tok tok.word s.room (word-is 16 x)) z r e,
-  )
-
-  pub role-full-inverse : (r : Step) (after : List ℕ) → code_of f.word ≡ 17 → s.room ≡ 0 → r ≡ refused_by s 3 0 → RoleRead text s before r after
-  role-full-inverse r after x z e = (
-    stays r 3 0 e,
-    λ rs st.
-        form_full (λ u. Stored (put_role rs u) r after) text s s f h (role s.room (drop s.at text)) (λ room. one property inverse room tok.rest)
-        (role-inverse tok tok.word s.room (word-is 17 x)) z r e,
-  )
-
-  -- a leaf's record
-  put_moves : (b r : Step) (body : ℕ) → 1 ≤ s.room → b ≡ begun_by s f.next → r ≡ put_by b body → body ≤ 2 → Moves text s r
-  put_moves b r body l e q m =
-      let n = sane.few in
-      let w = sane.written in
-      rw (q, e) (record { at = h.within; few = omega arith; room = omega arith; written = omega arith })
-
-  leaf_ran : {A : Type 0} (make : List Rec → A → List Rec) (v : A) (p : Parsed A) (k a body : ℕ) (b r : Step) (after : List ℕ) →
-      p ≡ counted s.room (λ room. done v room tok.rest) → ((rs : List Rec) → make rs v ≡ rs ++ (rec k a 0 ∷ [])) → (shape_of k).body ≡ body → body ≤ 2 → 1 ≤ s.room →
-      b ≡ begun_by s f.next → length before ≡ 765 → (r ≡ put_by b body) × (after ≡ set (set (set before b.written k) (b.written + 1) a) (b.written + 2) 0) →
-      (rs : List Rec) → Stored rs s before → Ran text p (λ u. Stored (make rs u) r after) r
-  unfolding Ran
-  leaf_ran make v p k a body b r after e m sh bl l eb len q rs st =
-      form_ran (λ u. Stored (make rs u) r after) text s b f h p (λ room x. done v room x) e eb l r
-      (ap (λ (x : Step). x.fault) q.0, ap (λ (x : Step). x.room) q.0, ap (λ (x : Step). drop x.at text) q.0, made)
-    where
-      begun_stored : Stored rs b before
-      begun_stored = rw eb (record { count = st.count; bytes = st.bytes; size = st.size })
-
-      made : Stored (make rs v) r after
-      made =
-          let n = sane.few in
-          let w = sane.written in
-          let y : b.written ≡ s.written = ap (λ (x : Step). x.written) eb in
-          rw (m rs, q.0, q.1) (stored_put b before k a 0 body (omega arith) bl rs sh begun_stored)
-
-  pub role-named : (b r : Step) (after : List ℕ) (n : ℕ) → code_of f.word ≡ 16 → n ≡ number_of f.word → 1 ≤ s.room → b ≡ begun_by s f.next → length before ≡ 765 →
-      (r ≡ put_by b 1) × (after ≡ set (set (set before b.written 16) (b.written + 1) n) (b.written + 2) 0) → RoleRead text s before r after
-  unfolding put_role shape_of
-  role-named b r after n x y l eb len q = (
-    put_moves b r 1 l eb q.0 (omega arith),
-    leaf_ran put_role (named n) (role s.room (drop s.at text)) 16 n 1 b r after
-        (role-name tok tok.word s.room (word-is 16 x) ∙ rw (← h.word, ← y)) (λ rs. refl) refl (omega arith) l eb len q,
-  )
-
-  -- the first of the steps of a form
-  abbrev Opened : Step → Step → Type 0
-  Opened b o = Moves text b o × Ran text (opening b.room (drop b.at text)) (λ _. Same b o) o
-
-  begun_moves : (b o : Step) → 1 ≤ s.room → b ≡ begun_by s f.next → Moves text b o → Moves text s o
-  begun_moves b o l e m =
-      let x : b.room ≡ s.room - 1 = ap (λ (x : Step). x.room) e in
-      let y : b.count ≡ s.count = ap (λ (x : Step). x.count) e in
-      record { at = m.at; few = omega (arith, m.few); room = omega (arith, m.room); written = m.written }
-
-  finish_moves : (b e r : Step) → 1 ≤ s.room → b ≡ begun_by s f.next → e.count + e.room ≤ b.count + b.room → e.room ≤ b.room → Grows text e r → Moves text s r
-  finish_moves b e r l q x y g =
-      let u : b.room ≡ s.room - 1 = ap (λ (x : Step). x.room) q in
-      let v : b.count ≡ s.count = ap (λ (x : Step). x.count) q in
-      record { at = g.at; few = omega (arith, g.few); room = omega (arith, g.room); written = g.written }
-
-  begun_stored : (b : Step) → b ≡ begun_by s f.next → (rs : List Rec) → Stored rs s before → Stored rs b before
-  begun_stored b e rs st = rw e (record { count = st.count; bytes = st.bytes; size = st.size })
-
-  pub role_stop_open : (b o : Step) (after : List ℕ) → code_of f.word ≡ 17 → 1 ≤ s.room → b ≡ begun_by s f.next → Opened b o → (o.fault ≡ 0 → ⊥) → RoleRead text s before o after
+-- a form of one operand, read so far
+module _ {A C : Type 0} (rd : Reader A) (make : A → C) (Q : C → ℕ → Parser → Type 0) (p : Parser) where
+  pub one_open : (e : Refusal) (o t : Parser) → OpeningRead p (Err e) o → Reads p (counted p.room (λ room. one rd make room p.rest.now)) Q (Err e) t
   unfolding one
-  role_stop_open b o after x l eb h1 z = (
-    begun_moves b o l eb h1.0,
-    λ rs st.
-        form_ran (λ u. Stored (put_role rs u) o after) text s b f h (role s.room (drop s.at text)) (one property inverse)
-        (role-inverse tok tok.word s.room (word-is 17 x)) eb l o
-        (ran_stops (λ _. Same b o) (λ u. Stored (put_role rs u) o after) text (opening b.room (drop b.at text))
-        (λ _ room s. and_then (property room s) (λ a room s. closed (inverse a) room s)) o h1.1 z),
-  )
+  one_open e o t h = form_stop Q _ p e o t h
 
-  pub role_stop_name : (b o : Step) (v : Found) (r : Step) (after : List ℕ) → code_of f.word ≡ 17 → 1 ≤ s.room → b ≡ begun_by s f.next → Opened b o → o.fault ≡ 0 →
-      Finds text o.at v → (code_of v.word ≡ 16 → ⊥) → r ≡ refused_by o (wrong_code (code_of v.word)) v.place → RoleRead text s before r after
+  pub one_stop : (u : Unit {0}) (o : Parser) (K : A → ℕ → Parser → Type 0) (e : Refusal) (q t : Parser) → OpeningRead p (Ok u) o →
+      Reads o (rd o.room o.rest.now) K (Err e) q → Reads p (counted p.room (λ room. one rd make room p.rest.now)) Q (Err e) t
   unfolding one
-  role_stop_name b o v r after x l eb h1 z h2 y e = (
-    begun_moves b r l eb (rw e (record { at = h1.0.at; few = h1.0.few; room = h1.0.room; written = h1.0.written })),
-    λ rs st.
-        form_ran (λ u. Stored (put_role rs u) r after) text s b f h (role s.room (drop s.at text)) (one property inverse)
-        (role-inverse tok tok.word s.room (word-is 17 x)) eb l r
-        (ran_then (λ _. Same b o) (λ u. Stored (put_role rs u) r after) text (opening b.room (drop b.at text))
-        (λ _ room s. and_then (property room s) (λ a room s. closed (inverse a) room s)) o r h1.1 z
-        (λ _ _. ran_stops (λ _. Unit) (λ u. Stored (put_role rs u) r after) text (property o.room (drop o.at text)) (λ a room s. closed (inverse a) room s) r
-        (rw (property_other (next (drop o.at text)) (next (drop o.at text)).word o.room (rw h2.word at y))
-        (ran_wrong (λ _. Unit) text o.at v r h2 (ap (λ (x : Step). x.fault) e) (ap (λ (x : Step). x.place) e))) (not-zero o r v e))),
-  )
+  one_stop u o K e q t h k = form_then Q _ p u o _ t h (λ _. reads_stop K Q _ o _ e q t k)
 
-  pub role_inversed : (b o : Step) (v : Found) (n : ℕ) (e r : Step) (after : List ℕ) → code_of f.word ≡ 17 → 1 ≤ s.room → b ≡ begun_by s f.next → Opened b o → o.fault ≡ 0 →
-      Finds text o.at v → code_of v.word ≡ 16 → n ≡ number_of v.word → e ≡ moved_to o v.next → Finished text 17 n 0 1 e before after r → RoleRead text s before r after
-  unfolding one put_role shape_of
-  role_inversed b o v n e r after x l eb h1 z h2 y m q g = (
-    finish_moves b e r l eb (omega (arith, h1.0.few, ap (λ (x : Step). x.count) q, ap (λ (x : Step). x.room) q)) (omega (arith, h1.0.room, ap (λ (x : Step). x.room) q)) g.0,
-    λ rs st.
-        form_ran (λ u. Stored (put_role rs u) r after) text s b f h (role s.room (drop s.at text)) (one property inverse)
-        (role-inverse tok tok.word s.room (word-is 17 x)) eb l r
-        (ran_then (λ _. Same b o) (λ u. Stored (put_role rs u) r after) text (opening b.room (drop b.at text))
-        (λ _ room s. and_then (property room s) (λ a room s. closed (inverse a) room s)) o r h1.1 z
-        (λ _ same. ran_then (λ k. k ≡ n) (λ u. Stored (put_role rs u) r after) text (property o.room (drop o.at text)) (λ a room s. closed (inverse a) room s) e r
-        (found) (ap (λ (x : Step). x.fault) q)
-        (λ k w. closed_ran (Adds 17 n 0 1 e r before after) (λ u. Stored (put_role rs u) r after) text (inverse k) e.room (drop e.at text) r g.1
-        (λ adds. rw w (adds rs refl (rw q (record { count = (begun_stored b eb rs st).count ∙ sym same.0; bytes = rw same.1 (begun_stored b eb rs st).bytes; size = st.size }))))))),
-  )
-    where
-      found : Ran text (property o.room (drop o.at text)) (λ k. k ≡ n) e
-      found = found_name text o v e n h2 y m q
+  pub one_done : (u : Unit {0}) (o : Parser) (K : A → ℕ → Parser → Type 0) (x : ℕ) (q : Parser) (bytes : List ℕ) (r : Result ℕ Refusal) (t : Parser) → OpeningRead p (Ok u) o →
+      Reads o (rd o.room o.rest.now) K (Ok x) q → ClosingRead bytes q r t → ((a : A) → K a x q → (y : ℕ) → Put bytes q.sheet y t.sheet → Q (make a) y t) →
+      Reads p (counted p.room (λ room. one rd make room p.rest.now)) Q r t
+  unfolding one
+  one_done u o K x q bytes r t h k c w =
+      form_then Q _ p u o _ t h (λ _. reads_then K Q _ o _ x q r t k (λ a g. closed_reads Q (make a) bytes q r t c (w a g)))
 
--- concepts, by the word's code
-by-unknown : (inner : Reader Concept) (t : Token) (w : Word) (room : ℕ) → code_of w ≡ 0 → concept_by inner t w room ≡ wrong t
-unfolding concept_by code_of
-by-unknown inner t SubClassOf room h = absurd (omega arith)
-by-unknown inner t IntersectionOf room h = absurd (omega arith)
-by-unknown inner t UnionOf room h = absurd (omega arith)
-by-unknown inner t ComplementOf room h = absurd (omega arith)
-by-unknown inner t SomeValuesFrom room h = absurd (omega arith)
-by-unknown inner t AllValuesFrom room h = absurd (omega arith)
-by-unknown inner t InverseOf room h = absurd (omega arith)
-by-unknown inner t Thing room h = absurd (omega arith)
-by-unknown inner t Nothing room h = absurd (omega arith)
-by-unknown inner t (ClassNamed n) room h = absurd (omega arith)
-by-unknown inner t (PropertyNamed n) room h = absurd (omega arith)
-by-unknown inner t Opening room h = absurd (omega arith)
-by-unknown inner t Closing room h = absurd (omega arith)
-by-unknown inner t Unknown room h = refl
-by-unknown inner t Ending room h = absurd (omega arith)
+-- a form of two operands, read so far
+module _ {A B C : Type 0} (rd : Reader A) (rc : Reader B) (make : A → B → C) (Q : C → ℕ → Parser → Type 0) (p : Parser) where
+  pub two_open : (e : Refusal) (o t : Parser) → OpeningRead p (Err e) o → Reads p (counted p.room (λ room. two rd rc make room p.rest.now)) Q (Err e) t
+  unfolding two
+  two_open e o t h = form_stop Q _ p e o t h
 
-by_other : (inner : Reader Concept) (t : Token) (w : Word) (room : ℕ) → 8 < code_of w → concept_by inner t w room ≡ wrong t
-unfolding concept_by code_of
-by_other inner t SubClassOf room h = refl
-by_other inner t IntersectionOf room h = absurd (omega arith)
-by_other inner t UnionOf room h = absurd (omega arith)
-by_other inner t ComplementOf room h = absurd (omega arith)
-by_other inner t SomeValuesFrom room h = absurd (omega arith)
-by_other inner t AllValuesFrom room h = absurd (omega arith)
-by_other inner t InverseOf room h = refl
-by_other inner t Thing room h = absurd (omega arith)
-by_other inner t Nothing room h = absurd (omega arith)
-by_other inner t (ClassNamed n) room h = absurd (omega arith)
-by_other inner t (PropertyNamed n) room h = refl
-by_other inner t Opening room h = refl
-by_other inner t Closing room h = refl
-by_other inner t Unknown room h = refl
-by_other inner t Ending room h = refl
+  module _ (u : Unit {0}) (o : Parser) (h : OpeningRead p (Ok u) o) (K : A → ℕ → Parser → Type 0) where
+    pub two_first : (e : Refusal) (q t : Parser) → Reads o (rd o.room o.rest.now) K (Err e) q → Reads p (counted p.room (λ room. two rd rc make room p.rest.now)) Q (Err e) t
+    unfolding two
+    two_first e q t k = form_then Q _ p u o _ t h (λ _. reads_stop K Q _ o _ e q t k)
 
-by-full : (inner : Reader Concept) (t : Token) (w : Word) → (code_of w ≡ 0 → ⊥) → code_of w ≤ 8 → concept_by inner t w 0 ≡ refused 3 0
-unfolding concept_by code_of counted
-by-full inner t SubClassOf h k = absurd (omega arith)
-by-full inner t IntersectionOf h k = refl
-by-full inner t UnionOf h k = refl
-by-full inner t ComplementOf h k = refl
-by-full inner t SomeValuesFrom h k = refl
-by-full inner t AllValuesFrom h k = refl
-by-full inner t InverseOf h k = absurd (omega arith)
-by-full inner t Thing h k = refl
-by-full inner t Nothing h k = refl
-by-full inner t (ClassNamed n) h k = refl
-by-full inner t (PropertyNamed n) h k = absurd (omega arith)
-by-full inner t Opening h k = absurd (omega arith)
-by-full inner t Closing h k = absurd (omega arith)
-by-full inner t Unknown h k = absurd (h refl)
-by-full inner t Ending h k = absurd (omega arith)
+    module _ (x : ℕ) (q : Parser) (k : Reads o (rd o.room o.rest.now) K (Ok x) q) (L : A → B → ℕ → Parser → Type 0) where
+      pub two_second : (e : Refusal) (m t : Parser) → ((a : A) → K a x q → Reads q (rc q.room q.rest.now) (L a) (Err e) m) →
+          Reads p (counted p.room (λ room. two rd rc make room p.rest.now)) Q (Err e) t
+      unfolding two
+      two_second e m t l = form_then Q _ p u o _ t h (λ _. reads_then K Q _ o _ x q _ t k (λ a g. reads_stop (L a) Q _ q _ e m t (l a g)))
 
-abbrev Leaf : Reader Concept → Token → Word → ℕ → ℕ → Type 0
-Leaf inner t w room k =
-    (v : Concept) × (concept_by inner t w room ≡ counted room (λ room. done v room t.rest)) × ((rs : List Rec) → put_concept rs v ≡ rs ++ (rec k 0 0 ∷ [])) ×
-    ((shape_of k).body ≡ 0)
+      pub two_done : (y : ℕ) (m : Parser) (bytes : List ℕ) (r : Result ℕ Refusal) (t : Parser) → ((a : A) → K a x q → Reads q (rc q.room q.rest.now) (L a) (Ok y) m) → ClosingRead bytes m r t →
+          ((a : A) → K a x q → (b : B) → L a b y m → (z : ℕ) → Put bytes m.sheet z t.sheet → Q (make a b) z t) → Reads p (counted p.room (λ room. two rd rc make room p.rest.now)) Q r t
+      unfolding two
+      two_done y m bytes r t l c w =
+          form_then Q _ p u o _ t h (λ _. reads_then K Q _ o _ x q _ t k (λ a g. reads_then (L a) Q _ q _ y m r t (l a g)
+          (λ b i. closed_reads Q (make a b) bytes m r t c (w a g b i))))
 
-by_leaf : (inner : Reader Concept) (t : Token) (w : Word) (room : ℕ) → (code_of w ≡ 0 → ⊥) → code_of w ≤ 2 → Leaf inner t w room (code_of w)
-unfolding concept_by code_of put_concept shape_of
-by_leaf inner t SubClassOf room h k = absurd (omega arith)
-by_leaf inner t IntersectionOf room h k = absurd (omega arith)
-by_leaf inner t UnionOf room h k = absurd (omega arith)
-by_leaf inner t ComplementOf room h k = absurd (omega arith)
-by_leaf inner t SomeValuesFrom room h k = absurd (omega arith)
-by_leaf inner t AllValuesFrom room h k = absurd (omega arith)
-by_leaf inner t InverseOf room h k = absurd (omega arith)
-by_leaf inner t Thing room h k = (top_c, refl, (λ rs. refl), refl)
-by_leaf inner t Nothing room h k = (bottom_c, refl, (λ rs. refl), refl)
-by_leaf inner t (ClassNamed n) room h k = absurd (omega arith)
-by_leaf inner t (PropertyNamed n) room h k = absurd (omega arith)
-by_leaf inner t Opening room h k = absurd (omega arith)
-by_leaf inner t Closing room h k = absurd (omega arith)
-by_leaf inner t Unknown room h k = absurd (h refl)
-by_leaf inner t Ending room h k = absurd (omega arith)
+-- a record's bytes
+pub rec_none : (k : ℕ) → (shape_of k).body ≡ 0 → (k ∷ []) ≡ rec_bytes (rec k 0 0)
+unfolding rec_bytes
+rec_none k h = rw h
 
-by_name : (inner : Reader Concept) (t : Token) (w : Word) (room : ℕ) → code_of w ≡ 3 → concept_by inner t w room ≡ counted room (λ room. done (name_c (number_of w)) room t.rest)
-unfolding concept_by code_of number_of
-by_name inner t SubClassOf room h = absurd (omega arith)
-by_name inner t IntersectionOf room h = absurd (omega arith)
-by_name inner t UnionOf room h = absurd (omega arith)
-by_name inner t ComplementOf room h = absurd (omega arith)
-by_name inner t SomeValuesFrom room h = absurd (omega arith)
-by_name inner t AllValuesFrom room h = absurd (omega arith)
-by_name inner t InverseOf room h = absurd (omega arith)
-by_name inner t Thing room h = absurd (omega arith)
-by_name inner t Nothing room h = absurd (omega arith)
-by_name inner t (ClassNamed n) room h = refl
-by_name inner t (PropertyNamed n) room h = absurd (omega arith)
-by_name inner t Opening room h = absurd (omega arith)
-by_name inner t Closing room h = absurd (omega arith)
-by_name inner t Unknown room h = absurd (omega arith)
-by_name inner t Ending room h = absurd (omega arith)
+pub rec_one : (k a : ℕ) → (shape_of k).body ≡ 1 → (k ∷ a ∷ []) ≡ rec_bytes (rec k a 0)
+unfolding rec_bytes
+rec_one k a h = rw h
 
-by-not : (inner : Reader Concept) (t : Token) (w : Word) (room : ℕ) → code_of w ≡ 4 → concept_by inner t w room ≡ counted room (λ room. one inner not_c room t.rest)
-unfolding concept_by code_of
-by-not inner t SubClassOf room h = absurd (omega arith)
-by-not inner t IntersectionOf room h = absurd (omega arith)
-by-not inner t UnionOf room h = absurd (omega arith)
-by-not inner t ComplementOf room h = refl
-by-not inner t SomeValuesFrom room h = absurd (omega arith)
-by-not inner t AllValuesFrom room h = absurd (omega arith)
-by-not inner t InverseOf room h = absurd (omega arith)
-by-not inner t Thing room h = absurd (omega arith)
-by-not inner t Nothing room h = absurd (omega arith)
-by-not inner t (ClassNamed n) room h = absurd (omega arith)
-by-not inner t (PropertyNamed n) room h = absurd (omega arith)
-by-not inner t Opening room h = absurd (omega arith)
-by-not inner t Closing room h = absurd (omega arith)
-by-not inner t Unknown room h = absurd (omega arith)
-by-not inner t Ending room h = absurd (omega arith)
+pub rec_two : (k a b : ℕ) → (shape_of k).body ≡ 2 → (k ∷ a ∷ b ∷ []) ≡ rec_bytes (rec k a b)
+unfolding rec_bytes
+rec_two k a b h = rw h
 
-abbrev Pair : Reader Concept → Token → Word → ℕ → ℕ → Type 0
-Pair inner t w room k =
-    (make : Concept → Concept → Concept) × (concept_by inner t w room ≡ counted room (λ room. two inner inner make room t.rest)) ×
-    ((rs : List Rec) (c d : Concept) → put_concept rs (make c d) ≡ joins k (put_concept rs c) (put_concept (put_concept rs c) d)) × ((shape_of k).body ≡ 2)
+pub stored_same : (rs : List Rec) (s t : Sheet) → t ≡ s → Stored rs s → Stored rs t
+stored_same rs s t e st = let F : Sheet → Type 0 = λ v. Stored rs v in subst F (sym e) st
 
-by_pair : (inner : Reader Concept) (t : Token) (w : Word) (room : ℕ) → 5 ≤ code_of w → code_of w ≤ 6 → Pair inner t w room (code_of w)
-unfolding concept_by code_of put_concept shape_of
-by_pair inner t SubClassOf room h k = absurd (omega arith)
-by_pair inner t IntersectionOf room h k = (and_c, refl, (λ rs c d. refl), refl)
-by_pair inner t UnionOf room h k = (or_c, refl, (λ rs c d. refl), refl)
-by_pair inner t ComplementOf room h k = absurd (omega arith)
-by_pair inner t SomeValuesFrom room h k = absurd (omega arith)
-by_pair inner t AllValuesFrom room h k = absurd (omega arith)
-by_pair inner t InverseOf room h k = absurd (omega arith)
-by_pair inner t Thing room h k = absurd (omega arith)
-by_pair inner t Nothing room h k = absurd (omega arith)
-by_pair inner t (ClassNamed n) room h k = absurd (omega arith)
-by_pair inner t (PropertyNamed n) room h k = absurd (omega arith)
-by_pair inner t Opening room h k = absurd (omega arith)
-by_pair inner t Closing room h k = absurd (omega arith)
-by_pair inner t Unknown room h k = absurd (omega arith)
-by_pair inner t Ending room h k = absurd (omega arith)
-
-abbrev Under : Reader Concept → Token → Word → ℕ → ℕ → Type 0
-Under inner t w room k =
-    (make : Role → Concept → Concept) × (concept_by inner t w room ≡ counted room (λ room. two role inner make room t.rest)) ×
-    ((rs : List Rec) (u : Role) (d : Concept) → put_concept rs (make u d) ≡ joins k (put_role rs u) (put_concept (put_role rs u) d)) × ((shape_of k).body ≡ 2)
-
-by_under : (inner : Reader Concept) (t : Token) (w : Word) (room : ℕ) → 7 ≤ code_of w → code_of w ≤ 8 → Under inner t w room (code_of w)
-unfolding concept_by code_of put_concept shape_of
-by_under inner t SubClassOf room h k = absurd (omega arith)
-by_under inner t IntersectionOf room h k = absurd (omega arith)
-by_under inner t UnionOf room h k = absurd (omega arith)
-by_under inner t ComplementOf room h k = absurd (omega arith)
-by_under inner t SomeValuesFrom room h k = (exists_c 0 0, refl, (λ rs u d. refl), refl)
-by_under inner t AllValuesFrom room h k = (forall_c 0 0, refl, (λ rs u d. refl), refl)
-by_under inner t InverseOf room h k = absurd (omega arith)
-by_under inner t Thing room h k = absurd (omega arith)
-by_under inner t Nothing room h k = absurd (omega arith)
-by_under inner t (ClassNamed n) room h k = absurd (omega arith)
-by_under inner t (PropertyNamed n) room h k = absurd (omega arith)
-by_under inner t Opening room h k = absurd (omega arith)
-by_under inner t Closing room h k = absurd (omega arith)
-by_under inner t Unknown room h k = absurd (omega arith)
-by_under inner t Ending room h k = absurd (omega arith)
-
-abbrev Opens : Reader Concept → Token → Word → ℕ → Type 0
-Opens inner t w room = (g : Reader Concept) × (concept_by inner t w room ≡ counted room (λ room. and_then (opening room t.rest) (λ _ room s. g room s)))
-
-by_open : (inner : Reader Concept) (t : Token) (w : Word) (room : ℕ) → 4 ≤ code_of w → code_of w ≤ 8 → Opens inner t w room
-unfolding concept_by code_of one two
-by_open inner t SubClassOf room h k = absurd (omega arith)
-by_open inner t IntersectionOf room h k = ((λ room s. and_then (inner room s) (λ a room s. and_then (inner room s) (λ b room s. closed (and_c a b) room s))), refl)
-by_open inner t UnionOf room h k = ((λ room s. and_then (inner room s) (λ a room s. and_then (inner room s) (λ b room s. closed (or_c a b) room s))), refl)
-by_open inner t ComplementOf room h k = ((λ room s. and_then (inner room s) (λ a room s. closed (not_c a) room s)), refl)
-by_open inner t SomeValuesFrom room h k = ((λ room s. and_then (role room s) (λ a room s. and_then (inner room s) (λ b room s. closed (exists_c 0 0 a b) room s))), refl)
-by_open inner t AllValuesFrom room h k = ((λ room s. and_then (role room s) (λ a room s. and_then (inner room s) (λ b room s. closed (forall_c 0 0 a b) room s))), refl)
-by_open inner t InverseOf room h k = absurd (omega arith)
-by_open inner t Thing room h k = absurd (omega arith)
-by_open inner t Nothing room h k = absurd (omega arith)
-by_open inner t (ClassNamed n) room h k = absurd (omega arith)
-by_open inner t (PropertyNamed n) room h k = absurd (omega arith)
-by_open inner t Opening room h k = absurd (omega arith)
-by_open inner t Closing room h k = absurd (omega arith)
-by_open inner t Unknown room h k = absurd (omega arith)
-by_open inner t Ending room h k = absurd (omega arith)
-
-leaf_as : (inner : Reader Concept) (t : Token) (w : Word) (room k : ℕ) → code_of w ≡ k → Leaf inner t w room (code_of w) → Leaf inner t w room k
-leaf_as inner t w room k e v = rw e at v
-
-pair_as : (inner : Reader Concept) (t : Token) (w : Word) (room k : ℕ) → code_of w ≡ k → Pair inner t w room (code_of w) → Pair inner t w room k
-pair_as inner t w room k e v = rw e at v
-
-under_as : (inner : Reader Concept) (t : Token) (w : Word) (room k : ℕ) → code_of w ≡ k → Under inner t w room (code_of w) → Under inner t w room k
-under_as inner t w room k e v = rw e at v
-
--- the number of the last record
-last_is : (i : ℕ) (a : Step) (x : List Rec) → length x ≡ a.count → i ≡ a.count - 1 → (P : ℕ → Type 0) → P i → P (last_of x)
-last_is i a x e ei P p = let q : last_of x ≡ i = omega arith in rw q p
-
-pub joined_is : (k i j : ℕ) (a e : Step) (x y : List Rec) → length x ≡ a.count → length y ≡ e.count → i ≡ a.count - 1 → j ≡ e.count - 1 → (r : Step) (after : List ℕ) →
-    Stored (y ++ (rec k i j ∷ [])) r after → Stored (joins k x y) r after
-joined_is k i j a e x y p q ei ej r after st =
-    let u : last_of x ≡ i = omega arith in
-    let v : last_of y ≡ j = omega arith in
-    rw (u, v) st
-
-abbrev pub ConceptRead : List ℕ → Step → List ℕ → Step → List ℕ → Type 0
-ConceptRead text s before r after =
-    Moves text s r × ((deep : ℕ) (rs : List Rec) → s.room < deep → Stored rs s before →
-    Ran text (concept deep s.room (drop s.at text)) (λ c. Stored (put_concept rs c) r after) r)
-
-concept-step : (text : List ℕ) (s r : Step) (after : List ℕ) (d : ℕ) (rs : List Rec) →
-    Ran text (concept_by (concept d) (next (drop s.at text)) (next (drop s.at text)).word s.room) (λ c. Stored (put_concept rs c) r after) r →
-    Ran text (concept (suc d) s.room (drop s.at text)) (λ c. Stored (put_concept rs c) r after) r
+pub concept_next : (p : Parser) (r : Word × ℕ) (q : Parser) (n : Next p r q) (w : Word) (a : Result ℕ Refusal) (t : Parser) → r.0 ≡ w →
+    ((d : ℕ) (rs : List Rec) → q.room ≤ d → Stored rs q.sheet →
+    Reads q (concept_by (concept d) (token w (next p.rest.now).left q.rest.now) w q.room) (λ c x t. Wrote (put_concept rs c) x t.sheet) a t) → ConceptRead p a t
 unfolding concept
-concept-step text s r after d rs w = w
+concept_next p r q n w a t e k zero rs l st = absurd (omega arith)
+concept_next p r q n w a t e k (suc d) rs l st = next_then p r q n _ (concept_by (concept d)) w a t e (k d rs (omega (arith, n.room)) (stored_same rs _ _ n.sheet st))
 
--- any depth that is more than the records that may begin is enough
-deeper : (text : List ℕ) (s : Step) (before : List ℕ) (r : Step) (after : List ℕ) → Moves text s r →
-    ((d : ℕ) (rs : List Rec) → s.room ≤ d → Stored rs s before →
-    Ran text (concept_by (concept d) (next (drop s.at text)) (next (drop s.at text)).word s.room) (λ c. Stored (put_concept rs c) r after) r) →
-    ConceptRead text s before r after
-deeper text s before r after m k = (m, go)
-  where
-    go : (deep : ℕ) (rs : List Rec) → s.room < deep → Stored rs s before → Ran text (concept deep s.room (drop s.at text)) (λ c. Stored (put_concept rs c) r after) r
-    go zero rs l st = absurd (omega arith)
-    go (suc d) rs l st = concept-step text s r after d rs (k d rs (omega arith) st)
+-- the words whose form has two operands, with the record's kind
+pub record Joins {A : Type 0} (rd : ℕ → Reader A) (put_first : List Rec → A → List Rec) (w : Word) (k : ℕ) (make : A → Concept → Concept) : Type 0 where
+  pub reads : (d : ℕ) (t : Token) (room : ℕ) → concept_by (concept d) t w room ≡ counted room (λ room. two (rd d) (concept d) make room t.rest)
+  pub body : (shape_of k).body ≡ 2
+  pub puts : (rs : List Rec) (a : A) (b : Concept) → put_concept rs (make a b) ≡ joins k (put_first rs a) (put_concept (put_first rs a) b)
 
-module _ (text : List ℕ) (s : Step) (before : List ℕ) (f : Found) (h : Finds text s.at f) (sane : Sane text s) where
-  abbrev here : Token
-  here = next (drop s.at text)
+pub intersection : Joins concept put_concept IntersectionOf 5 and_c
+unfolding concept_by put_concept shape_of
+intersection = record { reads = λ d t room. refl; body = refl; puts = λ rs a b. refl }
 
-  same_code : code_of f.word ≡ code_of here.word
-  same_code = ap code_of h.word
+pub union : Joins concept put_concept UnionOf 6 or_c
+unfolding concept_by put_concept shape_of
+union = record { reads = λ d t room. refl; body = refl; puts = λ rs a b. refl }
 
-  pub concept-unknown : (r : Step) (after : List ℕ) → code_of f.word ≡ 0 → r ≡ refused_by s (wrong_code (code_of f.word)) f.place → ConceptRead text s before r after
-  concept-unknown r after x e =
-      deeper text s before r after (stays text s before f h sane r (wrong_code (code_of f.word)) f.place e)
-      (λ d rs l st. rw (by-unknown (concept d) here here.word s.room (sym same_code ∙ x))
-      (ran_wrong (λ c. Stored (put_concept rs c) r after) text s.at f r h (ap (λ (x : Step). x.fault) e) (ap (λ (x : Step). x.place) e)))
+pub some_values : Joins (λ _. role) put_role SomeValuesFrom 7 (exists_c 0 0)
+unfolding concept_by put_concept shape_of
+some_values = record { reads = λ d t room. refl; body = refl; puts = λ rs a b. refl }
 
-  pub concept_other : (r : Step) (after : List ℕ) → 8 < code_of f.word → r ≡ refused_by s (wrong_code (code_of f.word)) f.place → ConceptRead text s before r after
-  concept_other r after x e =
-      deeper text s before r after (stays text s before f h sane r (wrong_code (code_of f.word)) f.place e)
-      (λ d rs l st. rw (by_other (concept d) here here.word s.room (omega (arith, same_code)))
-      (ran_wrong (λ c. Stored (put_concept rs c) r after) text s.at f r h (ap (λ (x : Step). x.fault) e) (ap (λ (x : Step). x.place) e)))
+pub all_values : Joins (λ _. role) put_role AllValuesFrom 8 (forall_c 0 0)
+unfolding concept_by put_concept shape_of
+all_values = record { reads = λ d t room. refl; body = refl; puts = λ rs a b. refl }
 
-  pub concept-full : (r : Step) (after : List ℕ) → (code_of f.word ≡ 0 → ⊥) → code_of f.word ≤ 8 → s.room ≡ 0 → r ≡ refused_by s 3 0 → ConceptRead text s before r after
-  concept-full r after x y z e =
-      deeper text s before r after (stays text s before f h sane r 3 0 e)
-      (λ d rs l st. rw (z, by-full (concept d) here here.word (λ q. x (same_code ∙ q)) (omega (arith, same_code)))
-      (ran_full (λ c. Stored (put_concept rs c) r after) text r (ap (λ (x : Step). x.fault) e) (ap (λ (x : Step). x.place) e)))
+-- one thing made in place of another
+reads_map : {A B C X : Type 0} (Q : B → X → Parser → Type 0) (R : C → X → Parser → Type 0) (f : A → ℕ → List ℕ → Parsed B) (g : A → ℕ → List ℕ → Parsed C) (p : Parser) (a : Result X Refusal) (t : Parser) (P : Parsed A) →
+    ((v : A) (room : ℕ) (s : List ℕ) → Reads p (f v room s) Q a t → Reads p (g v room s) R a t) → Reads p (and_then P f) Q a t → Reads p (and_then P g) R a t
+unfolding Reads and_then
+reads_map Q R f g p (Ok x) t (refused n l) k h = h
+reads_map Q R f g p (Err e) t (refused n l) k h = h
+reads_map Q R f g p a t (done v room s) k h = k v room s h
 
-  pub concept_leaf : (b r : Step) (after : List ℕ) (k : ℕ) → k ≡ code_of f.word → (k ≡ 0 → ⊥) → k ≤ 2 → 1 ≤ s.room → b ≡ begun_by s f.next → length before ≡ 765 →
-      (r ≡ put_by b 0) × (after ≡ set (set (set before b.written k) (b.written + 1) 0) (b.written + 2) 0) → ConceptRead text s before r after
-  concept_leaf b r after k e x y l eb len q =
-      let ke : code_of here.word ≡ k = sym (e ∙ same_code) in
-      deeper text s before r after (put_moves text s before f h sane b r 0 l eb q.0 (omega arith))
-      (λ d rs m st.
-      let w = leaf_as (concept d) here here.word s.room k ke (by_leaf (concept d) here here.word s.room (λ z. x (sym ke ∙ z)) (omega arith)) in
-      leaf_ran text s before f h sane put_concept w.0 (concept_by (concept d) here here.word s.room) k 0 0 b r after w.1 w.2
-      w.3 (omega arith) l eb len q rs st)
+module _ {A B C X : Type 0} (rd : Reader A) (rc : Reader B) (make : A → B → C) (Q : A × B → X → Parser → Type 0) (R : C → X → Parser → Type 0) (p : Parser) (t : Parser)
+    (k : (v : A) (w : B) (x : X) → Q (v, w) x t → R (make v w) x t) where
+  made : (a : Result X Refusal) (v : A) (w : B) (room : ℕ) (s : List ℕ) → Reads p (done (both v w) room s) Q a t → Reads p (done (make v w) room s) R a t
+  unfolding Reads
+  made (Ok x) v w room s h = (h.0, h.1, h.2, k v w x h.3)
+  made (Err e) v w room s h = h
 
-  pub concept-named : (b r : Step) (after : List ℕ) (n : ℕ) → code_of f.word ≡ 3 → n ≡ number_of f.word → 1 ≤ s.room → b ≡ begun_by s f.next → length before ≡ 765 →
-      (r ≡ put_by b 1) × (after ≡ set (set (set before b.written 3) (b.written + 1) n) (b.written + 2) 0) → ConceptRead text s before r after
-  unfolding put_concept shape_of
-  concept-named b r after n x y l eb len q =
-      deeper text s before r after (put_moves text s before f h sane b r 1 l eb q.0 (omega arith))
-      (λ d rs m st.
-      leaf_ran text s before f h sane put_concept (name_c n) (concept_by (concept d) here here.word s.room) 3 n 1 b r after
-      (by_name (concept d) here here.word s.room (sym same_code ∙ x) ∙ rw (← h.word, ← y)) (λ rs. refl) refl (omega arith) l eb len q rs st)
+  pub two_made : (a : Result X Refusal) (n : ℕ) (s : List ℕ) → Reads p (counted n (λ room. two rd rc both room s)) Q a t → Reads p (counted n (λ room. two rd rc make room s)) R a t
+  unfolding Reads counted two
+  two_made (Ok x) zero s h = h
+  two_made (Err e) zero s h = h
+  two_made a (suc n) s h =
+      reads_map Q R _ _ p a t (opening n s)
+      (λ _ room s. reads_map Q R _ _ p a t (rd room s)
+      (λ v room s. reads_map Q R _ _ p a t (rc room s)
+      (λ w room s. reads_map Q R _ _ p a t (closing room s) (λ _ room s. made a v w room s)))) h
 
-  -- the forms, whose word has the code k
-  module _ (b o : Step) (k : ℕ) (e : k ≡ code_of f.word) (l : 1 ≤ s.room) (eb : b ≡ begun_by s f.next) (h1 : Moves text b o × Ran text (opening b.room (drop b.at text)) (λ _. Same b o) o) where
-    code_k : code_of here.word ≡ k
-    code_k = sym (e ∙ same_code)
+pub joined : {A : Type 0} (rd : ℕ → Reader A) (put_first : List Rec → A → List Rec) (w : Word) (k : ℕ) (make : A → Concept → Concept) → Joins rd put_first w k make →
+    (p : Parser) (r : Word × ℕ) (q : Parser) → Next p r q → r.0 ≡ w → (a : Result ℕ Refusal) (t : Parser) → FormRead rd put_first k q a t → ConceptRead p a t
+joined rd put_first w k make j p r q n is a t h =
+    concept_next p r q n w a t is
+    (λ d rs l st. rw (j.reads d (token w (next p.rest.now).left q.rest.now) q.room)
+    (two_made (rd d) (concept d) make _ _ q t (λ u v x g. rw (j.puts rs u v) g) a q.room q.rest.now (h d rs l st j.body)))
 
-    pub concept_stop_open : (after : List ℕ) → 4 ≤ k → k ≤ 8 → (o.fault ≡ 0 → ⊥) → ConceptRead text s before o after
-    concept_stop_open after x y z =
-        deeper text s before o after (begun_moves text s before f h sane b o l eb h1.0)
-        (λ d rs m st.
-        let w = by_open (concept d) here here.word s.room (omega (arith, code_k)) (omega (arith, code_k)) in
-        form_ran (λ c. Stored (put_concept rs c) o after) text s b f h (concept_by (concept d) here here.word s.room)
-        (λ room x. and_then (opening room x) (λ _ room s. w.0 room s)) w.1 eb l o
-        (ran_stops (λ _. Same b o) (λ c. Stored (put_concept rs c) o after) text (opening b.room (drop b.at text)) (λ _ room s. w.0 room s) o h1.1 z))
+-- a form of two operands, read so far
+module _ {A : Type 0} (rd : ℕ → Reader A) (put_first : List Rec → A → List Rec) (k : ℕ) (p : Parser) where
+  abbrev FirstRead : Parser → Result ℕ Refusal → Parser → Type 0
+  FirstRead o a m =
+      (d : ℕ) (rs : List Rec) → o.room < d → Stored rs o.sheet → Reads o (rd d o.room o.rest.now) (λ u x t. Wrote (put_first rs u) x t.sheet) a m
 
-    opened_stored : Same b o → (rs : List Rec) → Stored rs s before → Stored rs o before
-    opened_stored same rs st =
-        let u = begun_stored text s before f h sane b eb rs st in
-        record { count = u.count ∙ sym same.0; bytes = rw same.1 u.bytes; size = u.size }
+  pub operands_open : (e : Refusal) (o t : Parser) → OpeningRead p (Err e) o → FormRead rd put_first k p (Err e) t
+  operands_open e o t h d rs l st b = two_open _ _ _ _ p e o t h
 
-    low : (d : ℕ) → s.room ≤ d → o.room < d
-    low d m =
-        let u : b.room ≡ s.room - 1 = ap (λ (x : Step). x.room) eb in
-        omega (arith, h1.0.room)
+  module _ (u : Unit {0}) (o : Parser) (h : OpeningRead p (Ok u) o) (opens : Opens p o) where
+    pub operands_first : (e : Refusal) (m t : Parser) → FirstRead o (Err e) m → FormRead rd put_first k p (Err e) t
+    operands_first e m t f d rs l st b = two_first _ _ _ _ p u o h _ e m t (f d rs (omega (arith, opens.room)) (stored_same rs _ _ opens.sheet st))
 
-    moved_on : (a : Step) → Moves text o a → Moves text s a
-    moved_on a m =
-        begun_moves text s before f h sane b a l eb
-        (record { at = m.at; few = omega (arith, m.few, h1.0.few); room = omega (arith, m.room, h1.0.room); written = m.written })
+    module _ (x : ℕ) (m : Parser) (f : FirstRead o (Ok x) m) (moves : Moves o m) where
+      pub operands_second : (e : Refusal) (v t : Parser) → ConceptRead m (Err e) v → FormRead rd put_first k p (Err e) t
+      operands_second e v t g d rs l st b =
+          two_second _ _ _ _ p u o h _ x m (f d rs (omega (arith, opens.room)) (stored_same rs _ _ opens.sheet st))
+          (λ a c y t. Wrote (put_concept (put_first rs a) c) y t.sheet) e v t
+          (λ a w. g d (put_first rs a) (omega (arith, opens.room, moves.room)) w.stored)
 
-    module _ (z : o.fault ≡ 0) where
-      pub concept-not_stop : (a : Step) (after : List ℕ) → k ≡ 4 → ConceptRead text o before a after → (a.fault ≡ 0 → ⊥) → ConceptRead text s before a after
-      unfolding one
-      concept-not_stop a after x ha za =
-          deeper text s before a after (moved_on a ha.0)
-          (λ d rs m st.
-          form_ran (λ c. Stored (put_concept rs c) a after) text s b f h (concept_by (concept d) here here.word s.room) (one (concept d) not_c)
-          (by-not (concept d) here here.word s.room (code_k ∙ x)) eb l a
-          (ran_then (λ _. Same b o) (λ c. Stored (put_concept rs c) a after) text (opening b.room (drop b.at text))
-          (λ _ room s. and_then (concept d room s) (λ a room s. closed (not_c a) room s)) o a h1.1 z
-          (λ _ same. ran_stops (λ c. Stored (put_concept rs c) a after) (λ c. Stored (put_concept rs c) a after) text (concept d o.room (drop o.at text))
-          (λ a room s. closed (not_c a) room s) a (ha.1 d rs (low d m) (opened_stored same rs st)) za)))
+      pub operands_done : (y : ℕ) (v : Parser) (a : Result ℕ Refusal) (t : Parser) → ConceptRead m (Ok y) v → ClosingRead (k ∷ x ∷ y ∷ []) v a t → FormRead rd put_first k p a t
+      operands_done y v a t g c d rs l st b =
+          two_done _ _ _ _ p u o h _ x m (f d rs (omega (arith, opens.room)) (stored_same rs _ _ opens.sheet st))
+          (λ a c y t. Wrote (put_concept (put_first rs a) c) y t.sheet) y v _ a t
+          (λ a w. g d (put_first rs a) (omega (arith, opens.room, moves.room)) w.stored) c
+          (λ a w i g z written.
+          let x-is = w.last in
+          let y-is = g.last in
+          stored_put _ k _ _ _ v.sheet z t.sheet g.stored (rw (x-is, y-is) (rec_two k _ _ b)) written)
 
-      pub concept-not : (a r : Step) (mid after : List ℕ) (i : ℕ) → k ≡ 4 → ConceptRead text o before a mid → a.fault ≡ 0 → i ≡ a.count - 1 → Finished text 4 i 0 1 a mid after r →
-          ConceptRead text s before r after
-      unfolding one put_concept shape_of
-      concept-not a r mid after i x ha za ei g =
-          deeper text s before r after
-          (finish_moves text s before f h sane b a r l eb (omega (arith, ha.0.few, h1.0.few)) (omega (arith, ha.0.room, h1.0.room)) g.0)
-          (λ d rs m st.
-          form_ran (λ c. Stored (put_concept rs c) r after) text s b f h (concept_by (concept d) here here.word s.room) (one (concept d) not_c)
-          (by-not (concept d) here here.word s.room (code_k ∙ x)) eb l r
-          (ran_then (λ _. Same b o) (λ c. Stored (put_concept rs c) r after) text (opening b.room (drop b.at text))
-          (λ _ room s. and_then (concept d room s) (λ a room s. closed (not_c a) room s)) o r h1.1 z
-          (λ _ same. ran_then (λ c. Stored (put_concept rs c) a mid) (λ c. Stored (put_concept rs c) r after) text (concept d o.room (drop o.at text))
-          (λ a room s. closed (not_c a) room s) a r (ha.1 d rs (low d m) (opened_stored same rs st)) za
-          (λ c sc. closed_ran (Adds 4 i 0 1 a r mid after) (λ c. Stored (put_concept rs c) r after) text (not_c c) a.room (drop a.at text) r g.1
-          (λ adds. last_is i a (put_concept rs c) sc.count ei (λ j. Stored (put_concept rs c ++ (rec 4 j 0 ∷ [])) r after) (adds (put_concept rs c) refl sc))))))
+-- a complement, read so far
+module _ (p : Parser) (r : Word × ℕ) (q : Parser) (n : Next p r q) (is : r.0 ≡ ComplementOf) where
+  complement : (a : Result ℕ Refusal) (t : Parser) →
+      ((d : ℕ) (rs : List Rec) → q.room ≤ d → Stored rs q.sheet →
+      Reads q (counted q.room (λ room. one (concept d) not_c room q.rest.now)) (λ c x t. Wrote (put_concept rs c) x t.sheet) a t) → ConceptRead p a t
+  unfolding concept_by
+  complement a t h = concept_next p r q n ComplementOf a t is h
 
-      module _ (a : Step) (mid : List ℕ) (ha : ConceptRead text o before a mid) where
-        pub concept_pair_stop : 5 ≤ k → k ≤ 6 → (a.fault ≡ 0 → ⊥) → ConceptRead text s before a mid
-        unfolding two
-        concept_pair_stop x y za =
-            deeper text s before a mid (moved_on a ha.0)
-            (λ d rs m st.
-            let w = pair_as (concept d) here here.word s.room k code_k (by_pair (concept d) here here.word s.room (omega (arith, code_k)) (omega (arith, code_k))) in
-            form_ran (λ c. Stored (put_concept rs c) a mid) text s b f h (concept_by (concept d) here here.word s.room) (two (concept d) (concept d) w.0) w.1 eb l a
-            (ran_then (λ _. Same b o) (λ c. Stored (put_concept rs c) a mid) text (opening b.room (drop b.at text))
-            (λ _ room s. and_then (concept d room s) (λ a room s. and_then (concept d room s) (λ b room s. closed (w.0 a b) room s))) o a h1.1 z
-            (λ _ same. ran_stops (λ c. Stored (put_concept rs c) a mid) (λ c. Stored (put_concept rs c) a mid) text (concept d o.room (drop o.at text))
-            (λ a room s. and_then (concept d room s) (λ b room s. closed (w.0 a b) room s)) a (ha.1 d rs (low d m) (opened_stored same rs st)) za)))
+  pub not_open : (e : Refusal) (o t : Parser) → OpeningRead q (Err e) o → ConceptRead p (Err e) t
+  not_open e o t h = complement _ t (λ d rs l st. one_open _ _ _ q e o t h)
 
-        module _ (za : a.fault ≡ 0) (c2 : Step) (late : List ℕ) (hc : ConceptRead text a mid c2 late) where
-          moved_two : Moves text s c2
-          moved_two =
-              moved_on c2 (record { at = hc.0.at; few = omega (arith, hc.0.few, ha.0.few); room = omega (arith, hc.0.room, ha.0.room); written = hc.0.written })
+  module _ (u : Unit {0}) (o : Parser) (h : OpeningRead q (Ok u) o) (opens : Opens q o) where
+    pub not_stop : (e : Refusal) (m t : Parser) → ConceptRead o (Err e) m → ConceptRead p (Err e) t
+    not_stop e m t f = complement _ t (λ d rs l st. one_stop _ _ _ q u o _ e m t h (f d rs (omega (arith, opens.room)) (stored_same rs _ _ opens.sheet st)))
 
-          pub concept_pair_stop_2 : 5 ≤ k → k ≤ 6 → (c2.fault ≡ 0 → ⊥) → ConceptRead text s before c2 late
-          unfolding two
-          concept_pair_stop_2 x y zc =
-              deeper text s before c2 late moved_two
-              (λ d rs m st.
-              let w = pair_as (concept d) here here.word s.room k code_k (by_pair (concept d) here here.word s.room (omega (arith, code_k)) (omega (arith, code_k))) in
-              form_ran (λ c. Stored (put_concept rs c) c2 late) text s b f h (concept_by (concept d) here here.word s.room) (two (concept d) (concept d) w.0) w.1 eb l c2
-              (ran_then (λ _. Same b o) (λ c. Stored (put_concept rs c) c2 late) text (opening b.room (drop b.at text))
-              (λ _ room s. and_then (concept d room s) (λ a room s. and_then (concept d room s) (λ b room s. closed (w.0 a b) room s))) o c2 h1.1 z
-              (λ _ same. ran_then (λ c. Stored (put_concept rs c) a mid) (λ c. Stored (put_concept rs c) c2 late) text (concept d o.room (drop o.at text))
-              (λ a room s. and_then (concept d room s) (λ b room s. closed (w.0 a b) room s)) a c2 (ha.1 d rs (low d m) (opened_stored same rs st)) za
-              (λ c sc. ran_stops (λ e. Stored (put_concept (put_concept rs c) e) c2 late) (λ c. Stored (put_concept rs c) c2 late) text (concept d a.room (drop a.at text))
-              (λ b room s. closed (w.0 c b) room s) c2 (hc.1 d (put_concept rs c) (omega (arith, ha.0.room, low d m)) sc) zc))))
+    pub not_done : (x : ℕ) (m : Parser) (a : Result ℕ Refusal) (t : Parser) → ConceptRead o (Ok x) m → ClosingRead (4 ∷ x ∷ []) m a t → ConceptRead p a t
+    unfolding put_concept shape_of
+    not_done x m a t f c =
+        complement _ t (λ d rs l st. one_done _ _ _ q u o _ x m _ a t h (f d rs (omega (arith, opens.room)) (stored_same rs _ _ opens.sheet st)) c
+        (λ i w y written. let x-is = w.last in stored_put _ 4 _ 0 _ m.sheet y t.sheet w.stored (rw x-is (rec_one 4 _ refl)) written))
 
-          pub concept_pair : (r : Step) (after : List ℕ) (i j : ℕ) → 5 ≤ k → k ≤ 6 → c2.fault ≡ 0 → i ≡ a.count - 1 → j ≡ c2.count - 1 → Finished text k i j 2 c2 late after r →
-              ConceptRead text s before r after
-          unfolding two
-          concept_pair r after i j x y zc ei ej g =
-              deeper text s before r after
-              (finish_moves text s before f h sane b c2 r l eb (omega (arith, hc.0.few, ha.0.few, h1.0.few)) (omega (arith, hc.0.room, ha.0.room, h1.0.room)) g.0)
-              (λ d rs m st.
-              let w = pair_as (concept d) here here.word s.room k code_k (by_pair (concept d) here here.word s.room (omega (arith, code_k)) (omega (arith, code_k))) in
-              form_ran (λ c. Stored (put_concept rs c) r after) text s b f h (concept_by (concept d) here here.word s.room) (two (concept d) (concept d) w.0) w.1 eb l r
-              (ran_then (λ _. Same b o) (λ c. Stored (put_concept rs c) r after) text (opening b.room (drop b.at text))
-              (λ _ room s. and_then (concept d room s) (λ a room s. and_then (concept d room s) (λ b room s. closed (w.0 a b) room s))) o r h1.1 z
-              (λ _ same. ran_then (λ c. Stored (put_concept rs c) a mid) (λ c. Stored (put_concept rs c) r after) text (concept d o.room (drop o.at text))
-              (λ a room s. and_then (concept d room s) (λ b room s. closed (w.0 a b) room s)) a r (ha.1 d rs (low d m) (opened_stored same rs st)) za
-              (λ c sc. ran_then (λ e. Stored (put_concept (put_concept rs c) e) c2 late) (λ c. Stored (put_concept rs c) r after) text (concept d a.room (drop a.at text))
-              (λ b room s. closed (w.0 c b) room s) c2 r (hc.1 d (put_concept rs c) (omega (arith, ha.0.room, low d m)) sc) zc
-              (λ e se. closed_ran (Adds k i j 2 c2 r late after) (λ c. Stored (put_concept rs c) r after) text (w.0 c e) c2.room (drop c2.at text) r g.1
-              (λ adds. rw (w.2 rs c e)
-              (joined_is k i j a c2 (put_concept rs c) (put_concept (put_concept rs c) e) sc.count se.count ei ej r after (adds (put_concept (put_concept rs c) e) w.3 se))))))))
+-- an inverse, read so far
+module _ (p : Parser) (r : Word × ℕ) (q : Parser) (n : Next p r q) (is : r.0 ≡ InverseOf) where
+  inverted : (Q : Role → ℕ → Parser → Type 0) (a : Result ℕ Refusal) (t : Parser) →
+      Reads q (counted q.room (λ room. one property inverse room q.rest.now)) Q a t → Reads p (role p.room p.rest.now) Q a t
+  unfolding role_by
+  inverted Q a t h = next_then p r q n Q role_by InverseOf a t is h
 
-      module _ (a : Step) (mid : List ℕ) (ha : RoleRead text o before a mid) where
-        pub concept_under_stop : 7 ≤ k → k ≤ 8 → (a.fault ≡ 0 → ⊥) → ConceptRead text s before a mid
-        unfolding two
-        concept_under_stop x y za =
-            deeper text s before a mid (moved_on a ha.0)
-            (λ d rs m st.
-            let w = under_as (concept d) here here.word s.room k code_k (by_under (concept d) here here.word s.room (omega (arith, code_k)) (omega (arith, code_k))) in
-            form_ran (λ c. Stored (put_concept rs c) a mid) text s b f h (concept_by (concept d) here here.word s.room) (two role (concept d) w.0) w.1 eb l a
-            (ran_then (λ _. Same b o) (λ c. Stored (put_concept rs c) a mid) text (opening b.room (drop b.at text))
-            (λ _ room s. and_then (role room s) (λ a room s. and_then (concept d room s) (λ b room s. closed (w.0 a b) room s))) o a h1.1 z
-            (λ _ same. ran_stops (λ c. Stored (put_role rs c) a mid) (λ c. Stored (put_concept rs c) a mid) text (role o.room (drop o.at text))
-            (λ a room s. and_then (concept d room s) (λ b room s. closed (w.0 a b) room s)) a (ha.1 rs (opened_stored same rs st)) za)))
+  pub inverse_open : (e : Refusal) (o t : Parser) → OpeningRead q (Err e) o → RoleRead p (Err e) t
+  inverse_open e o t h rs st = inverted _ _ t (one_open _ _ _ q e o t h)
 
-        module _ (za : a.fault ≡ 0) (c2 : Step) (late : List ℕ) (hc : ConceptRead text a mid c2 late) where
-          moved_under : Moves text s c2
-          moved_under =
-              moved_on c2 (record { at = hc.0.at; few = omega (arith, hc.0.few, ha.0.few); room = omega (arith, hc.0.room, ha.0.room); written = hc.0.written })
+  module _ (u : Unit {0}) (o : Parser) (h : OpeningRead q (Ok u) o) (opens : Opens q o) where
+    pub inverse_stop : (e : Refusal) (m t : Parser) → PropertyRead o (Err e) m → RoleRead p (Err e) t
+    inverse_stop e m t f rs st = inverted _ _ t (one_stop _ _ _ q u o _ e m t h f)
 
-          pub concept_under_stop_2 : 7 ≤ k → k ≤ 8 → (c2.fault ≡ 0 → ⊥) → ConceptRead text s before c2 late
-          unfolding two
-          concept_under_stop_2 x y zc =
-              deeper text s before c2 late moved_under
-              (λ d rs m st.
-              let w = under_as (concept d) here here.word s.room k code_k (by_under (concept d) here here.word s.room (omega (arith, code_k)) (omega (arith, code_k))) in
-              form_ran (λ c. Stored (put_concept rs c) c2 late) text s b f h (concept_by (concept d) here here.word s.room) (two role (concept d) w.0) w.1 eb l c2
-              (ran_then (λ _. Same b o) (λ c. Stored (put_concept rs c) c2 late) text (opening b.room (drop b.at text))
-              (λ _ room s. and_then (role room s) (λ a room s. and_then (concept d room s) (λ b room s. closed (w.0 a b) room s))) o c2 h1.1 z
-              (λ _ same. ran_then (λ c. Stored (put_role rs c) a mid) (λ c. Stored (put_concept rs c) c2 late) text (role o.room (drop o.at text))
-              (λ a room s. and_then (concept d room s) (λ b room s. closed (w.0 a b) room s)) a c2 (ha.1 rs (opened_stored same rs st)) za
-              (λ c sc. ran_stops (λ e. Stored (put_concept (put_role rs c) e) c2 late) (λ c. Stored (put_concept rs c) c2 late) text (concept d a.room (drop a.at text))
-              (λ b room s. closed (w.0 c b) room s) c2 (hc.1 d (put_role rs c) (omega (arith, ha.0.room, low d m)) sc) zc))))
+    pub inverse_done : (x : ℕ) (m : Parser) (a : Result ℕ Refusal) (t : Parser) → PropertyRead o (Ok x) m → ClosingRead (17 ∷ x ∷ []) m a t → RoleRead p a t
+    unfolding put_role shape_of
+    inverse_done x m a t f c rs st =
+        inverted _ _ t (one_done _ _ _ q u o _ x m _ a t h f c
+        (λ i w y written. let x-is = w.0 in stored_put rs 17 _ 0 _ m.sheet y t.sheet (stored_same rs _ _ (w.1 ∙ opens.sheet ∙ n.sheet) st) (rw x-is (rec_one 17 _ refl)) written))
 
-          pub concept_under : (r : Step) (after : List ℕ) (i j : ℕ) → 7 ≤ k → k ≤ 8 → c2.fault ≡ 0 → i ≡ a.count - 1 → j ≡ c2.count - 1 → Finished text k i j 2 c2 late after r →
-              ConceptRead text s before r after
-          unfolding two
-          concept_under r after i j x y zc ei ej g =
-              deeper text s before r after
-              (finish_moves text s before f h sane b c2 r l eb (omega (arith, hc.0.few, ha.0.few, h1.0.few)) (omega (arith, hc.0.room, ha.0.room, h1.0.room)) g.0)
-              (λ d rs m st.
-              let w = under_as (concept d) here here.word s.room k code_k (by_under (concept d) here here.word s.room (omega (arith, code_k)) (omega (arith, code_k))) in
-              form_ran (λ c. Stored (put_concept rs c) r after) text s b f h (concept_by (concept d) here here.word s.room) (two role (concept d) w.0) w.1 eb l r
-              (ran_then (λ _. Same b o) (λ c. Stored (put_concept rs c) r after) text (opening b.room (drop b.at text))
-              (λ _ room s. and_then (role room s) (λ a room s. and_then (concept d room s) (λ b room s. closed (w.0 a b) room s))) o r h1.1 z
-              (λ _ same. ran_then (λ c. Stored (put_role rs c) a mid) (λ c. Stored (put_concept rs c) r after) text (role o.room (drop o.at text))
-              (λ a room s. and_then (concept d room s) (λ b room s. closed (w.0 a b) room s)) a r (ha.1 rs (opened_stored same rs st)) za
-              (λ c sc. ran_then (λ e. Stored (put_concept (put_role rs c) e) c2 late) (λ c. Stored (put_concept rs c) r after) text (concept d a.room (drop a.at text))
-              (λ b room s. closed (w.0 c b) room s) c2 r (hc.1 d (put_role rs c) (omega (arith, ha.0.room, low d m)) sc) zc
-              (λ e se. closed_ran (Adds k i j 2 c2 r late after) (λ c. Stored (put_concept rs c) r after) text (w.0 c e) c2.room (drop c2.at text) r g.1
-              (λ adds. rw (w.2 rs c e)
-              (joined_is k i j a c2 (put_role rs c) (put_concept (put_role rs c) e) sc.count se.count ei ej r after (adds (put_concept (put_role rs c) e) w.3 se))))))))
+-- a name or a constant
+module _ (p : Parser) (r : Word × ℕ) (q : Parser) (n : Next p r q) (a : Result ℕ Refusal) (t : Parser) where
+  pub role_named : (k : ℕ) → r.0 ≡ PropertyNamed k → LeafRead (16 ∷ k ∷ []) q a t → RoleRead p a t
+  unfolding role_by put_role shape_of
+  role_named k is h rs st =
+      next_then p r q n _ role_by (PropertyNamed k) a t is
+      (leaf_reads _ (named k) _ q a t h (λ x written. stored_put rs 16 k 0 _ q.sheet x t.sheet (stored_same rs _ _ n.sheet st) (rec_one 16 k refl) written))
 
--- what the next step may rely on
-pub inner_sane : (text : List ℕ) (b o : Step) → Sane text b × (b.count + b.room ≤ 254) → Moves text b o → Sane text o × (o.count + o.room ≤ 254)
-inner_sane text b o h m = (record { at = m.at; few = omega (arith, m.few, h.1); written = m.written }, omega (arith, m.few, h.1))
+  pub concept_top : r.0 ≡ Thing → LeafRead (1 ∷ []) q a t → ConceptRead p a t
+  unfolding concept_by put_concept shape_of
+  concept_top is h =
+      concept_next p r q n Thing a t is
+      (λ d rs l st. leaf_reads _ top_c _ q a t h (λ x written. stored_put rs 1 0 0 _ q.sheet x t.sheet st (rec_none 1 refl) written))
 
-pub begun_falls : (text : List ℕ) (s b o : Step) (i t : ℕ) → 1 ≤ s.room → b ≡ begun_by s i → Moves text b o → s.room ≡ t → o.room < t
-begun_falls text s b o i t l e m q = let u : b.room ≡ s.room - 1 = ap (λ (x : Step). x.room) e in omega (arith, m.room)
+  pub concept_bottom : r.0 ≡ Nothing → LeafRead (2 ∷ []) q a t → ConceptRead p a t
+  unfolding concept_by put_concept shape_of
+  concept_bottom is h =
+      concept_next p r q n Nothing a t is
+      (λ d rs l st. leaf_reads _ bottom_c _ q a t h (λ x written. stored_put rs 2 0 0 _ q.sheet x t.sheet st (rec_none 2 refl) written))
 
-pub moves_falls : (text : List ℕ) (o a : Step) (t : ℕ) → Moves text o a → o.room < t → a.room < t
-moves_falls text o a t m q = omega (arith, m.room)
+  pub concept_named : (k : ℕ) → r.0 ≡ ClassNamed k → LeafRead (3 ∷ k ∷ []) q a t → ConceptRead p a t
+  unfolding concept_by put_concept shape_of
+  concept_named k is h =
+      concept_next p r q n (ClassNamed k) a t is
+      (λ d rs l st. leaf_reads _ (name_c k) _ q a t h (λ x written. stored_put rs 3 k 0 _ q.sheet x t.sheet st (rec_one 3 k refl) written))
 
-pub more_sane : (text : List ℕ) (s o : Step) → Sane text s → Moves text s o → Sane text o
-more_sane text s o h m = record { at = m.at; few = omega (arith, m.few, h.few); written = m.written }
+-- a word that cannot stand there
+module _ (p : Parser) (r : Word × ℕ) (q : Parser) (n : Next p r q) (e : Refusal) (t : Parser) (w : Wrong r.0 r.1 e) where
+  pub role_wrong : ((k : ℕ) → r.0 ≢ PropertyNamed k) → r.0 ≢ InverseOf → RoleRead p (Err e) t
+  role_wrong a b rs st = next_then p r q n _ role_by r.0 _ t refl (rw (role_other _ r.0 q.room a b) (next_wrong p r q n _ e t w))
+
+  pub concept_wrong : r.0 ≢ Thing → r.0 ≢ Nothing → ((k : ℕ) → r.0 ≢ ClassNamed k) → r.0 ≢ ComplementOf → r.0 ≢ IntersectionOf → r.0 ≢ UnionOf → r.0 ≢ SomeValuesFrom →
+      r.0 ≢ AllValuesFrom → ConceptRead p (Err e) t
+  concept_wrong a b c d f g h i =
+      concept_next p r q n r.0 _ t refl (λ deep rs l st. rw (concept_other (concept deep) _ r.0 q.room a b c d f g h i) (next_wrong p r q n _ e t w))

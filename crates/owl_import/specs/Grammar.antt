@@ -19,21 +19,8 @@ and_then (done a room s) f = f a room s
 -- "18, word not known, with its byte; 19, a known word or parenthesis that cannot stand there, with its byte, or a text ending
 -- inside a form, place the text's length"
 unfoldable pub wrong_no : Word → ℕ
-wrong_no SubClassOf = 19
-wrong_no IntersectionOf = 19
-wrong_no UnionOf = 19
-wrong_no ComplementOf = 19
-wrong_no SomeValuesFrom = 19
-wrong_no AllValuesFrom = 19
-wrong_no InverseOf = 19
-wrong_no Thing = 19
-wrong_no Nothing = 19
-wrong_no (ClassNamed n) = 19
-wrong_no (PropertyNamed n) = 19
-wrong_no Opening = 19
-wrong_no Closing = 19
 wrong_no Unknown = 18
-wrong_no Ending = 19
+wrong_no _ = 19
 
 abbrev pub wrong : {A : Type 0} → Token → Parsed A
 wrong t = refused (wrong_no t.word) t.left
@@ -49,41 +36,15 @@ Reader A = ℕ → List ℕ → Parsed A
 
 -- a parenthesis
 unfoldable pub opens : Token → Word → ℕ → Parsed Unit
-opens t SubClassOf room = wrong t
-opens t IntersectionOf room = wrong t
-opens t UnionOf room = wrong t
-opens t ComplementOf room = wrong t
-opens t SomeValuesFrom room = wrong t
-opens t AllValuesFrom room = wrong t
-opens t InverseOf room = wrong t
-opens t Thing room = wrong t
-opens t Nothing room = wrong t
-opens t (ClassNamed n) room = wrong t
-opens t (PropertyNamed n) room = wrong t
 opens t Opening room = done tt room t.rest
-opens t Closing room = wrong t
-opens t Unknown room = wrong t
-opens t Ending room = wrong t
+opens t _ room = wrong t
 
 abbrev pub opening : Reader Unit
 opening room s = opens (next s) (next s).word room
 
 unfoldable pub closes : Token → Word → ℕ → Parsed Unit
-closes t SubClassOf room = wrong t
-closes t IntersectionOf room = wrong t
-closes t UnionOf room = wrong t
-closes t ComplementOf room = wrong t
-closes t SomeValuesFrom room = wrong t
-closes t AllValuesFrom room = wrong t
-closes t InverseOf room = wrong t
-closes t Thing room = wrong t
-closes t Nothing room = wrong t
-closes t (ClassNamed n) room = wrong t
-closes t (PropertyNamed n) room = wrong t
-closes t Opening room = wrong t
 closes t Closing room = done tt room t.rest
-closes t Unknown room = wrong t
-closes t Ending room = wrong t
+closes t _ room = wrong t
 
 abbrev pub closing : Reader Unit
 closing room s = closes (next s) (next s).word room
@@ -103,63 +64,32 @@ two p q make room s =
 
 -- a named property that is no record of its own
 unfoldable pub property_by : Token → Word → ℕ → Parsed ℕ
-property_by t SubClassOf room = wrong t
-property_by t IntersectionOf room = wrong t
-property_by t UnionOf room = wrong t
-property_by t ComplementOf room = wrong t
-property_by t SomeValuesFrom room = wrong t
-property_by t AllValuesFrom room = wrong t
-property_by t InverseOf room = wrong t
-property_by t Thing room = wrong t
-property_by t Nothing room = wrong t
-property_by t (ClassNamed n) room = wrong t
 property_by t (PropertyNamed n) room = done n room t.rest
-property_by t Opening room = wrong t
-property_by t Closing room = wrong t
-property_by t Unknown room = wrong t
-property_by t Ending room = wrong t
+property_by t _ room = wrong t
 
 abbrev pub property : Reader ℕ
 property room s = property_by (next s) (next s).word room
 
 -- a role: "ObjectInverseOf of a named property", "an inverse with its name as one"
 unfoldable pub role_by : Token → Word → ℕ → Parsed Role
-role_by t SubClassOf room = wrong t
-role_by t IntersectionOf room = wrong t
-role_by t UnionOf room = wrong t
-role_by t ComplementOf room = wrong t
-role_by t SomeValuesFrom room = wrong t
-role_by t AllValuesFrom room = wrong t
 role_by t InverseOf room = counted room (λ room. one property inverse room t.rest)
-role_by t Thing room = wrong t
-role_by t Nothing room = wrong t
-role_by t (ClassNamed n) room = wrong t
 role_by t (PropertyNamed n) room = counted room (λ room. done (named n) room t.rest)
-role_by t Opening room = wrong t
-role_by t Closing room = wrong t
-role_by t Unknown room = wrong t
-role_by t Ending room = wrong t
+role_by t _ room = wrong t
 
 abbrev pub role : Reader Role
 role room s = role_by (next s) (next s).word room
 
 -- a concept, where `inner` reads the concepts in it
 unfoldable pub concept_by : Reader Concept → Token → Word → ℕ → Parsed Concept
-concept_by inner t SubClassOf room = wrong t
 concept_by inner t IntersectionOf room = counted room (λ room. two inner inner and_c room t.rest)
 concept_by inner t UnionOf room = counted room (λ room. two inner inner or_c room t.rest)
 concept_by inner t ComplementOf room = counted room (λ room. one inner not_c room t.rest)
 concept_by inner t SomeValuesFrom room = counted room (λ room. two role inner (exists_c 0 0) room t.rest)
 concept_by inner t AllValuesFrom room = counted room (λ room. two role inner (forall_c 0 0) room t.rest)
-concept_by inner t InverseOf room = wrong t
 concept_by inner t Thing room = counted room (λ room. done top_c room t.rest)
 concept_by inner t Nothing room = counted room (λ room. done bottom_c room t.rest)
 concept_by inner t (ClassNamed n) room = counted room (λ room. done (name_c n) room t.rest)
-concept_by inner t (PropertyNamed n) room = wrong t
-concept_by inner t Opening room = wrong t
-concept_by inner t Closing room = wrong t
-concept_by inner t Unknown room = wrong t
-concept_by inner t Ending room = wrong t
+concept_by inner t _ room = wrong t
 
 -- forms within forms, at most so deep: one deeper than records may begin, so that 3 comes first
 unfoldable pub concept : ℕ → Reader Concept
@@ -178,20 +108,8 @@ unfoldable pub axioms_by : Reader (List Axiom) → Token → Word → ℕ → Pa
 axioms_by others t SubClassOf room =
     counted room (λ room. and_then (two (concept (suc most)) (concept (suc most)) axiom2 room t.rest)
     (λ a room s. and_then (others room s) (λ l room s. done (a ∷ l) room s)))
-axioms_by others t IntersectionOf room = wrong t
-axioms_by others t UnionOf room = wrong t
-axioms_by others t ComplementOf room = wrong t
-axioms_by others t SomeValuesFrom room = wrong t
-axioms_by others t AllValuesFrom room = wrong t
-axioms_by others t InverseOf room = wrong t
-axioms_by others t Thing room = wrong t
-axioms_by others t Nothing room = wrong t
-axioms_by others t (ClassNamed n) room = wrong t
-axioms_by others t (PropertyNamed n) room = wrong t
-axioms_by others t Opening room = wrong t
-axioms_by others t Closing room = wrong t
-axioms_by others t Unknown room = wrong t
 axioms_by others t Ending room = done [] room t.rest
+axioms_by others t _ room = wrong t
 
 unfoldable pub axioms : ℕ → Reader (List Axiom)
 axioms zero room s = refused 3 0

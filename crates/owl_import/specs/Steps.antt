@@ -1,130 +1,127 @@
--- What the code's steps stand for (contracts between the crate's own functions).
-use Rattle.std.specs.Prelude.{◌≡◌, ℕ, suc, ◌+◌, ◌-◌, ◌*◌, ◌<◌, ◌≤◌, cond, eqb, List, [], ◌∷◌, ◌++◌, length, take, drop}
+-- What the parser's methods tell each other (contracts between the crate's own functions).
+use Rattle.std.specs.Prelude.{◌≡◌, ◌≢◌, ℕ, ◌+◌, ◌-◌, ◌<◌, ◌≤◌, List, ◌++◌, length, Result, Ok, Err}
+use Rattle.refusals.specs.Numbers.{number}
+use Rattle.refusals.specs.declared.Refusal.{Refusal}
 use Rattle.owl_words.specs.declared.Word.{Word}
-use Rattle.owl_words.specs.declared.Word.TheVariants.{SubClassOf, IntersectionOf, UnionOf, ComplementOf, SomeValuesFrom, AllValuesFrom, InverseOf, Thing, Nothing, ClassNamed, PropertyNamed, Opening, Closing, Unknown, Ending}
-use Rattle.owl_import.specs.declared.parser.Step.{Step}
-use Rattle.owl_import.specs.Grammar.{Parsed, refused, done, closing, role, two, concept, most, axiom2, axioms}
+use Rattle.owl_words.specs.Words.{next}
+use Rattle.owl_import.specs.declared.parser.Parser.{Parser}
+use Rattle.owl_import.specs.declared.sheet.Sheet.{Sheet}
+use Rattle.owl_import.specs.Grammar.{Parsed, refused, done, wrong_no, counted, opening, closing, property, Reader, role, two, concept, axioms}
 use Rattle.records.specs.Shapes.{shape_of}
-use Rattle.syntax.specs.Laid.{Rec, rec, laid}
-use Rattle.owl_import.specs.RecordsOf.{put_role, put_concept, put_axiom, put_axioms}
+use Rattle.syntax.specs.Laid.{Rec, laid}
+use Rattle.owl_import.specs.RecordsOf.{last_of, put_role, joins, put_concept, put_axioms}
 use Rattle.owl_import.specs.Import.{place_of}
 
-abbrev pub refused_by : Step → ℕ → ℕ → Step
-refused_by s n p = record { fault = n; place = p; at = s.at; room = s.room; count = s.count; written = s.written }
-
-abbrev pub begun_by : Step → ℕ → Step
-begun_by s i = record { fault = 0; place = 0; at = i; room = s.room - 1; count = s.count; written = s.written }
-
-abbrev pub moved_to : Step → ℕ → Step
-moved_to s i = record { fault = 0; place = 0; at = i; room = s.room; count = s.count; written = s.written }
-
-abbrev pub put_by : Step → ℕ → Step
-put_by s body = record { fault = 0; place = 0; at = s.at; room = s.room; count = s.count + 1; written = s.written + 1 + body }
-
--- inside the text and the buffer
-pub record Sane (text : List ℕ) (s : Step) : Type 0 where
-  pub at : s.at ≤ length text
-  pub few : s.count + s.room ≤ 255
-  pub written : s.written ≤ 3 * s.count
-
-pub record Moves (text : List ℕ) (s r : Step) : Type 0 where
-  pub at : r.at ≤ length text
-  pub few : r.count + r.room ≤ s.count + s.room
-  pub room : r.room ≤ s.room
-  pub written : r.written ≤ 3 * r.count
-
--- nothing was written
-abbrev pub Same : Step → Step → Type 0
-Same s r = (r.count ≡ s.count) × (r.written ≡ s.written)
-
--- the records that are written, and their bytes
-pub record Stored (rs : List Rec) (s : Step) (buffer : List ℕ) : Type 0 where
+-- the records that are written
+pub record Stored (rs : List Rec) (s : Sheet) : Type 0 where
   pub count : length rs ≡ s.count
-  pub bytes : take s.written buffer ≡ laid rs
-  pub size : length buffer ≡ 765
+  pub bytes : s.bytes.items ≡ laid rs
 
--- after a record that was counted before
-pub record Grows (text : List ℕ) (s r : Step) : Type 0 where
-  pub at : r.at ≤ length text
-  pub few : r.count + r.room ≤ s.count + s.room + 1
-  pub room : r.room ≤ s.room
-  pub written : r.written ≤ 3 * r.count
+-- the same, and the number of the last
+pub record Wrote (rs : List Rec) (x : ℕ) (s : Sheet) : Type 0 where
+  pub stored : Stored rs s
+  pub last : x ≡ last_of rs
 
--- a record was written behind those that were there
-abbrev pub Adds : ℕ → ℕ → ℕ → ℕ → Step → Step → List ℕ → List ℕ → Type 0
-Adds k a b body s r before after = (rs : List Rec) → (shape_of k).body ≡ body → Stored rs s before → Stored (rs ++ (rec k a b ∷ [])) r after
+-- a record's bytes behind those that were there, and its number
+pub record Put (written : List ℕ) (before : Sheet) (x : ℕ) (after : Sheet) : Type 0 where
+  pub bytes : after.bytes.items ≡ before.bytes.items ++ written
+  pub count : after.count ≡ before.count + 1
+  pub number : x ≡ before.count
 
--- a step is what is read of the text, where Q holds of what it made
-unfoldable pub Ran : {A : Type 0} → List ℕ → Parsed A → (A → Type 0) → Step → Type 0
-Ran text (refused n l) Q r = (r.fault ≡ n) × (n ≡ 0 → ⊥) × (r.place ≡ place_of text n l)
-Ran text (done a room s) Q r = (r.fault ≡ 0) × (r.room ≡ room) × (drop r.at text ≡ s) × Q a
+-- what is answered and left is what is parsed of a text, where Q holds of what was read, of the answer and of the parser
+unfoldable pub Reads : {A B : Type 0} → Parser → Parsed A → (A → B → Parser → Type 0) → Result B Refusal → Parser → Type 0
+Reads p (refused n l) Q (Ok x) q = ⊥
+Reads p (refused n l) Q (Err e) q = (number e.reason ≡ n) × (e.place ≡ place_of p.text.now n l)
+Reads p (done a room s) Q (Ok x) q = (q.text.now ≡ p.text.now) × (q.room ≡ room) × (q.rest.now ≡ s) × Q a x q
+Reads p (done a room s) Q (Err e) q = ⊥
 
-abbrev pub wrong_code : ℕ → ℕ
-wrong_code k = cond (eqb k 0) 18 19
+-- nothing is written, and nothing begins
+pub record Stays (p q : Parser) : Type 0 where
+  pub room : q.room ≡ p.room
+  pub sheet : q.sheet ≡ p.sheet
 
--- a number for each word: the kind of the record that it begins, 40 and 41 for parentheses, 64 for the text's end, 0 if it is not known
-unfoldable pub code_of : Word → ℕ
-code_of SubClassOf = 32
-code_of IntersectionOf = 5
-code_of UnionOf = 6
-code_of ComplementOf = 4
-code_of SomeValuesFrom = 7
-code_of AllValuesFrom = 8
-code_of InverseOf = 17
-code_of Thing = 1
-code_of Nothing = 2
-code_of (ClassNamed n) = 3
-code_of (PropertyNamed n) = 16
-code_of Opening = 40
-code_of Closing = 41
-code_of Unknown = 0
-code_of Ending = 64
+-- the records that are written, and those that may still begin
+pub record Moves (p q : Parser) : Type 0 where
+  pub few : q.sheet.count + q.room ≤ p.sheet.count + p.room
+  pub room : q.room ≤ p.room
 
-unfoldable pub number_of : Word → ℕ
-number_of SubClassOf = 0
-number_of IntersectionOf = 0
-number_of UnionOf = 0
-number_of ComplementOf = 0
-number_of SomeValuesFrom = 0
-number_of AllValuesFrom = 0
-number_of InverseOf = 0
-number_of Thing = 0
-number_of Nothing = 0
-number_of (ClassNamed n) = n
-number_of (PropertyNamed n) = n
-number_of Opening = 0
-number_of Closing = 0
-number_of Unknown = 0
-number_of Ending = 0
+-- a record that is counted, and not yet written
+pub record Opens (p q : Parser) : Type 0 where
+  pub few : q.sheet.count + q.room < p.sheet.count + p.room
+  pub room : q.room < p.room
+  pub sheet : q.sheet ≡ p.sheet
 
--- the end of a form whose record was counted before: its parenthesis read, the record written
-abbrev pub FormEnded : List ℕ → ℕ → ℕ → ℕ → ℕ → Step → List ℕ → Step → List ℕ → Type 0
-FormEnded text kind first second body s before r after =
-    Grows text s r × Ran text (closing s.room (drop s.at text)) (λ _. Adds kind first second body s r before after) r
+-- a record that was counted before is written
+pub record Closes (p q : Parser) : Type 0 where
+  pub few : q.sheet.count + q.room ≤ p.sheet.count + p.room + 1
+  pub room : q.room ≤ p.room
+
+-- the next word and its place
+pub record Next (p : Parser) (r : Word × ℕ) (q : Parser) : Type 0 where
+  pub word : r.0 ≡ (next p.rest.now).word
+  pub place : r.1 ≡ length p.text.now - (next p.rest.now).left
+  pub text : q.text.now ≡ p.text.now
+  pub rest : q.rest.now ≡ (next p.rest.now).rest
+  pub room : q.room ≡ p.room
+  pub sheet : q.sheet ≡ p.sheet
+
+-- a word's refusal
+pub record Wrong (w : Word) (at : ℕ) (e : Refusal) : Type 0 where
+  pub number : number e.reason ≡ wrong_no w
+  pub place : e.place ≡ at
+
+-- a word that is wanted there, or its refusal
+unfoldable pub Expects : Word → Parser → Result Unit Refusal → Parser → Type 0
+Expects w p (Ok x) q = Next p (w, length p.text.now - (next p.rest.now).left) q
+Expects w p (Err e) q = ((next p.rest.now).word ≢ w) × Wrong (next p.rest.now).word (length p.text.now - (next p.rest.now).left) e
+
+-- a record begins
+abbrev pub BeginningRead : Parser → Result Unit Refusal → Parser → Type 0
+BeginningRead p r q = Reads p (counted p.room (λ room. done (tt {0}) room p.rest.now)) (λ _ _ _. Unit) r q
+
+-- a record that is written as it begins
+abbrev pub LeafRead : List ℕ → Parser → Result ℕ Refusal → Parser → Type 0
+LeafRead bytes p r q = Reads p (counted p.room (λ room. done (tt {0}) room p.rest.now)) (λ _ x t. Put bytes p.sheet x t.sheet) r q
+
+abbrev pub OpeningRead : Parser → Result Unit Refusal → Parser → Type 0
+OpeningRead p r q = Reads p (counted p.room (λ room. opening room p.rest.now)) (λ _ _ _. Unit) r q
+
+abbrev pub ClosingRead : List ℕ → Parser → Result ℕ Refusal → Parser → Type 0
+ClosingRead bytes p r q = Reads p (closing p.room p.rest.now) (λ _ x t. Put bytes p.sheet x t.sheet) r q
+
+abbrev pub PropertyRead : Parser → Result ℕ Refusal → Parser → Type 0
+PropertyRead p r q = Reads p (property p.room p.rest.now) (λ n x t. (x ≡ n) × (t.sheet ≡ p.sheet)) r q
+
+-- what two operands are, before a form is made of them
+abbrev pub both : {A B : Type 0} → A → B → A × B
+both a b = (a, b)
 
 -- a role read and written
-abbrev pub RoleRead : List ℕ → Step → List ℕ → Step → List ℕ → Type 0
-RoleRead text s before r after =
-    Moves text s r × ((rs : List Rec) → Stored rs s before →
-    Ran text (role s.room (drop s.at text)) (λ u. Stored (put_role rs u) r after) r)
+abbrev pub RoleRead : Parser → Result ℕ Refusal → Parser → Type 0
+RoleRead p r q =
+    (rs : List Rec) → Stored rs p.sheet → Reads p (role p.room p.rest.now) (λ u x t. Wrote (put_role rs u) x t.sheet) r q
 
 -- a concept read and written
-abbrev pub ConceptRead : List ℕ → Step → List ℕ → Step → List ℕ → Type 0
-ConceptRead text s before r after =
-    Moves text s r × ((deep : ℕ) (rs : List Rec) → s.room < deep → Stored rs s before →
-    Ran text (concept deep s.room (drop s.at text)) (λ c. Stored (put_concept rs c) r after) r)
+abbrev pub ConceptRead : Parser → Result ℕ Refusal → Parser → Type 0
+ConceptRead p r q =
+    (deep : ℕ) (rs : List Rec) → p.room < deep → Stored rs p.sheet →
+    Reads p (concept deep p.room p.rest.now) (λ c x t. Wrote (put_concept rs c) x t.sheet) r q
 
--- an axiom whose word was counted, read and written
-abbrev pub AxiomRead : List ℕ → Step → List ℕ → Step → List ℕ → Type 0
-AxiomRead text s before r after =
-    Grows text s r × ((rs : List Rec) → Stored rs s before →
-    Ran text (two (concept (suc most)) (concept (suc most)) axiom2 s.room (drop s.at text)) (λ a. Stored (put_axiom rs a) r after) r)
+-- a form of two operands read, and written under a kind
+abbrev pub FormRead : {A : Type 0} → (ℕ → Reader A) → (List Rec → A → List Rec) → ℕ → Parser → Result ℕ Refusal → Parser → Type 0
+FormRead rd put_first kind p r q =
+    (deep : ℕ) (rs : List Rec) → p.room ≤ deep → Stored rs p.sheet → (shape_of kind).body ≡ 2 →
+    Reads p (counted p.room (λ room. two (rd deep) (concept deep) both room p.rest.now))
+    (λ c x t. Wrote (joins kind (put_first rs c.0) (put_concept (put_first rs c.0) c.1)) x t.sheet) r q
+
+abbrev pub PairRead : ℕ → Parser → Result ℕ Refusal → Parser → Type 0
+PairRead = FormRead concept put_concept
+
+abbrev pub RestrictionRead : ℕ → Parser → Result ℕ Refusal → Parser → Type 0
+RestrictionRead = FormRead (λ _. role) put_role
 
 -- axioms read and written
-abbrev pub AxiomsRead : List ℕ → Step → List ℕ → Step → List ℕ → Type 0
-AxiomsRead text s before r after =
-    Moves text s r × ((many : ℕ) (rs : List Rec) → s.room < many → Stored rs s before →
-    Ran text (axioms many s.room (drop s.at text)) (λ l. Stored (put_axioms rs l) r after) r)
-
-abbrev pub start_step : Step
-start_step = record { fault = 0; place = 0; at = 0; room = 255; count = 0; written = 0 }
+abbrev pub AxiomsRead : Parser → Result Unit Refusal → Parser → Type 0
+AxiomsRead p r q =
+    (many : ℕ) (rs : List Rec) → p.room < many → Stored rs p.sheet →
+    Reads p (axioms many p.room p.rest.now) (λ l _ t. Stored (put_axioms rs l) t.sheet) r q

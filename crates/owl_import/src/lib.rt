@@ -1,55 +1,25 @@
-// Knowledge bases to and from OWL 2 functional-style syntax (02, N7).
+// Knowledge bases from OWL 2 functional-style syntax (02, N7).
 #![tactic(auto)]
 
-ghost use Rattle.std.specs.Prelude.{◌≡◌, ◌≤◌, ◌++◌, length, take, drop};
 ghost use Rattle.owl_import.specs.Import.{imported};
-ghost use Rattle.owl_import.specs.Steps.{start_step};
 ghost use Rattle.output.specs.Output.{Writes};
 
-use output::WriteAnswer;
+use crate::parser::Parser;
+use refusals::{Reason, Refusal};
 
-pub mod parser;
-
-// The first n bytes of one list into another, the others kept.
-fn copy(from: &[u8], n: usize, out: &mut [u8])
-    requires { (n ≤ length from.now) × (n ≤ length out.old) }
-    ensures { out.new ≡ take n from.now ++ drop n out.old }
-{
-    let mut i = 0;
-    while i < n {
-        out[i] = from[i];
-        i += 1;
-    }
-}
-
-fn first() -> parser::Step
-    ensures { result ≡ start_step }
-{
-    parser::Step {
-        fault: 0,
-        place: 0,
-        at: 0,
-        room: 255,
-        count: 0,
-        written: 0,
-    }
-}
+mod parser;
+mod sheet;
 
 // The sheet of a text. Calls nest at most as deep as 255 forms.
-pub fn import(text: &[u8], out: &mut [u8]) -> WriteAnswer
+pub fn import(text: &[u8], out: &mut [u8]) -> Result<usize, Refusal>
     ensures { Writes (imported text.now) out.old out.new result }
 {
-    let mut buffer = [0u8; 765];
-    let s = first();
-    let r = parser::axioms(text, s, &mut buffer);
-    let n = r.fault;
-    if n != 0 {
-        return WriteAnswer::Refused(n, r.place);
+    let mut parser = Parser::new(text);
+    parser.axioms()?;
+    let sheet = parser.sheet.bytes.as_slice();
+    if out.len() < sheet.len() {
+        return Err(Refusal::of(Reason::OutputTooShort));
     }
-    let w = r.written;
-    if out.len() < w {
-        return WriteAnswer::Refused(21, 0);
-    }
-    copy(&buffer, w, out);
-    WriteAnswer::Written(w)
+    out[..sheet.len()].copy_from_slice(sheet);
+    Ok(sheet.len())
 }

@@ -1,350 +1,207 @@
-// Reads a text form by form and writes its records: each call reads what the definition of the same name reads (specs/Grammar.antt),
+// Reads a text form by form and writes its records: each method reads what the definition of the same name reads (specs/Grammar.antt),
 // and a record is written once its operands are. Calls nest at most 255 deep, since each form counts as a record when it begins.
-ghost use Rattle.std.specs.Prelude.{◌≡◌, ◌+◌, ◌-◌, ◌<◌, ◌≤◌, length, drop, set};
-ghost use Rattle.owl_import.specs.Grammar.{opening as opening_of, closing as closing_of};
-ghost use Rattle.owl_import.specs.Steps.{Sane, Moves, Ran, Same, FormEnded, RoleRead, ConceptRead, AxiomRead, AxiomsRead, refused_by, begun_by, moved_to, put_by, code_of, number_of, wrong_code};
+ghost use Rattle.std.specs.Prelude.{◌≡◌, ◌+◌, ◌<◌, ◌≤◌, [], length, OnOk};
 
+use crate::sheet::Sheet;
 use owl_words::{Word, next_token};
+use refusals::{Reason, Refusal};
 
-// How far a text is read: a refusal's number and place, or 0 and 0; the byte that is read next, the records that may still begin, the
-// records that are written, and their bytes.
-#[derive(Clone, Copy)]
-pub(crate) struct Step {
-    pub fault: u8,
-    pub place: usize,
-    pub at: usize,
-    pub room: usize,
-    pub count: usize,
-    pub written: usize,
+#[derive(Drop)]
+pub(crate) struct Parser<'a> {
+    text: &'a [u8],
+    // What is still to be read.
+    rest: &'a [u8],
+    // How many records may still begin; the sheet has a place for each.
+    room: u8,
+    pub(crate) sheet: Sheet,
+    ghost inside: { length rest.now ≤ length text.now },
+    ghost few: { sheet.count + room ≤ 255 },
 }
 
-fn refuse(s: Step, fault: u8, place: usize) -> Step
-    ensures { result ≡ refused_by s fault place }
-{
-    Step {
-        fault: fault,
-        place: place,
-        at: s.at,
-        room: s.room,
-        count: s.count,
-        written: s.written,
-    }
-}
+impl<'a> Parser<'a> {
+    ghost use Rattle.owl_import.specs.Steps.{Next, Wrong, Expects, Stays, Moves, Opens, Closes, BeginningRead, LeafRead, OpeningRead, ClosingRead, PropertyRead, RoleRead, ConceptRead, PairRead, RestrictionRead, AxiomsRead};
 
-// A form or a name begins, and the text goes on at a byte.
-fn begun(s: Step, at: usize) -> Step
-    requires { 1 ≤ s.room }
-    ensures { result ≡ begun_by s at }
-{
-    Step {
-        fault: 0,
-        place: 0,
-        at: at,
-        room: s.room - 1,
-        count: s.count,
-        written: s.written,
-    }
-}
-
-fn moved(s: Step, at: usize) -> Step
-    ensures { result ≡ moved_to s at }
-{
-    Step {
-        fault: 0,
-        place: 0,
-        at: at,
-        room: s.room,
-        count: s.count,
-        written: s.written,
-    }
-}
-
-// A number for each word: the kind of the record that it begins, 40 and 41 for parentheses, 64 for the text's end, 0 if it is not known.
-fn code(w: Word) -> u8
-    ensures { result ≡ code_of w }
-{
-    match w {
-        Word::SubClassOf => 32,
-        Word::IntersectionOf => 5,
-        Word::UnionOf => 6,
-        Word::ComplementOf => 4,
-        Word::SomeValuesFrom => 7,
-        Word::AllValuesFrom => 8,
-        Word::InverseOf => 17,
-        Word::Thing => 1,
-        Word::Nothing => 2,
-        Word::ClassNamed(_) => 3,
-        Word::PropertyNamed(_) => 16,
-        Word::Opening => 40,
-        Word::Closing => 41,
-        Word::Unknown => 0,
-        Word::Ending => 64,
-    }
-}
-
-// The number in a name.
-fn number(w: Word) -> u8
-    ensures { result ≡ number_of w }
-{
-    match w {
-        Word::SubClassOf => 0,
-        Word::IntersectionOf => 0,
-        Word::UnionOf => 0,
-        Word::ComplementOf => 0,
-        Word::SomeValuesFrom => 0,
-        Word::AllValuesFrom => 0,
-        Word::InverseOf => 0,
-        Word::Thing => 0,
-        Word::Nothing => 0,
-        Word::ClassNamed(n) => n,
-        Word::PropertyNamed(n) => n,
-        Word::Opening => 0,
-        Word::Closing => 0,
-        Word::Unknown => 0,
-        Word::Ending => 0,
-    }
-}
-
-// A word that is not known, 18, or that cannot stand there, 19.
-fn wrong(s: Step, code: u8, place: usize) -> Step
-    ensures { result ≡ refused_by s (wrong_code code) place }
-{
-    if code == 0 {
-        return refuse(s, 18, place);
-    }
-    refuse(s, 19, place)
-}
-
-fn opening(text: &[u8], s: Step) -> Step
-    requires { Sane text.now s }
-    ensures { Moves text.now s result × Ran text.now (opening_of s.room (drop s.at text.now)) (λ _. Same s result) result }
-{
-    let at = s.at;
-    let t = next_token(text, at);
-    let w = t.word;
-    let k = code(w);
-    if k == 40 {
-        return moved(s, t.next);
-    }
-    wrong(s, k, t.place)
-}
-
-fn closing(text: &[u8], s: Step) -> Step
-    requires { Sane text.now s }
-    ensures { Moves text.now s result × Ran text.now (closing_of s.room (drop s.at text.now)) (λ _. Same s result) result }
-{
-    let at = s.at;
-    let t = next_token(text, at);
-    let w = t.word;
-    let k = code(w);
-    if k == 41 {
-        return moved(s, t.next);
-    }
-    wrong(s, k, t.place)
-}
-
-// The number of the last record.
-fn last(s: Step) -> u8
-    requires { s.count ≤ 255 }
-    ensures { result ≡ s.count - 1 }
-{
-    if s.count == 0 {
-        return 0;
-    }
-    (s.count - 1) as u8
-}
-
-// Writes a record: its kind, and so many of its two body bytes.
-fn put(s: Step, buffer: &mut [u8], kind: u8, first: u8, second: u8, body: usize) -> Step
-    requires { (s.count ≤ 254) × (s.written + 2 < length buffer.old) × (body ≤ 2) }
-    ensures { (result ≡ put_by s body) × (buffer.new ≡ set (set (set buffer.old s.written kind) (s.written + 1) first) (s.written + 2) second) }
-{
-    let w = s.written;
-    buffer[w] = kind;
-    buffer[w + 1] = first;
-    buffer[w + 2] = second;
-    Step {
-        fault: 0,
-        place: 0,
-        at: s.at,
-        room: s.room,
-        count: s.count + 1,
-        written: w + 1 + body,
-    }
-}
-
-// Closes a form and writes its record.
-fn finish(
-    text: &[u8],
-    s: Step,
-    buffer: &mut [u8; 765],
-    kind: u8,
-    first: u8,
-    second: u8,
-    body: usize,
-) -> Step
-    requires { Sane text.now s × (s.count ≤ 254) × (body ≤ 2) }
-    ensures { FormEnded text.now kind first second body s buffer.old result buffer.new }
-{
-    let e = closing(text, s);
-    if e.fault != 0 {
-        return e;
-    }
-    put(e, buffer, kind, first, second, body)
-}
-
-// A role and its record.
-fn role(text: &[u8], s: Step, buffer: &mut [u8; 765]) -> Step
-    requires { Sane text.now s }
-    ensures { RoleRead text.now s buffer.old result buffer.new }
-{
-    let at = s.at;
-    let t = next_token(text, at);
-    let w = t.word;
-    let k = code(w);
-    if k == 16 {
-        let room = s.room;
-        if room == 0 {
-            return refuse(s, 3, 0);
+    pub(crate) fn new(text: &'a [u8]) -> Self
+        ensures text { result.text.now ≡ text.now }
+        ensures rest { result.rest.now ≡ text.now }
+        ensures room { result.room ≡ 255 }
+        ensures count { result.sheet.count ≡ 0 }
+        ensures bytes { result.sheet.bytes.items ≡ [] }
+    {
+        Parser {
+            text,
+            rest: text,
+            room: 255,
+            sheet: Sheet::new(),
         }
-        let b = begun(s, t.next);
-        let n = number(w);
-        return put(b, buffer, 16, n, 0, 1);
     }
-    if k == 17 {
-        let room = s.room;
-        if room == 0 {
-            return refuse(s, 3, 0);
-        }
-        let b = begun(s, t.next);
-        let o = opening(text, b);
-        if o.fault != 0 {
-            return o;
-        }
-        let i = o.at;
-        let v = next_token(text, i);
-        let x = v.word;
-        let j = code(x);
-        if j != 16 {
-            return wrong(o, j, v.place);
-        }
-        let n = number(x);
-        let e = moved(o, v.next);
-        return finish(text, e, buffer, 17, n, 0, 1);
-    }
-    wrong(s, k, t.place)
-}
 
-// A concept and its records.
-fn concept(text: &[u8], s: Step, buffer: &mut [u8; 765]) -> Step
-    requires { Sane text.now s }
-    ensures { ConceptRead text.now s buffer.old result buffer.new }
-{
-    let at = s.at;
-    let t = next_token(text, at);
-    let w = t.word;
-    let k = code(w);
-    if k == 0 {
-        return wrong(s, k, t.place);
+    // The next word, and its place.
+    fn next(&mut self) -> (Word, usize)
+        ensures { Next self.old result self.new }
+    {
+        let found = next_token(self.rest);
+        self.rest = found.rest;
+        (found.word, self.text.len() - found.left)
     }
-    if 8 < k {
-        return wrong(s, k, t.place);
-    }
-    let room = s.room;
-    if room == 0 {
-        return refuse(s, 3, 0);
-    }
-    let b = begun(s, t.next);
-    if k <= 2 {
-        return put(b, buffer, k, 0, 0, 0);
-    }
-    if k == 3 {
-        let n = number(w);
-        return put(b, buffer, 3, n, 0, 1);
-    }
-    let o = opening(text, b);
-    if o.fault != 0 {
-        return o;
-    }
-    if k == 4 {
-        let a = concept(text, o, buffer);
-        if a.fault != 0 {
-            return a;
-        }
-        let i = last(a);
-        return finish(text, a, buffer, 4, i, 0, 1);
-    }
-    if k <= 6 {
-        let a = concept(text, o, buffer);
-        if a.fault != 0 {
-            return a;
-        }
-        let e = concept(text, a, buffer);
-        if e.fault != 0 {
-            return e;
-        }
-        let i = last(a);
-        let j = last(e);
-        return finish(text, e, buffer, k, i, j, 2);
-    }
-    let a = role(text, o, buffer);
-    if a.fault != 0 {
-        return a;
-    }
-    let e = concept(text, a, buffer);
-    if e.fault != 0 {
-        return e;
-    }
-    let i = last(a);
-    let j = last(e);
-    finish(text, e, buffer, k, i, j, 2)
-}
 
-// An axiom whose word was counted, and its records.
-fn axiom(text: &[u8], s: Step, buffer: &mut [u8; 765]) -> Step
-    requires { Sane text.now s × (s.count + s.room ≤ 254) }
-    ensures { AxiomRead text.now s buffer.old result buffer.new }
-{
-    let o = opening(text, s);
-    if o.fault != 0 {
-        return o;
+    // The refusal of a word that is not known, or that cannot stand there.
+    fn wrong(word: Word, place: usize) -> Refusal
+        ensures { Wrong word place result }
+    {
+        match word {
+            Word::Unknown => Refusal::at(Reason::UnknownWord, place),
+            _ => Refusal::at(Reason::MisplacedWord, place),
+        }
     }
-    let a = concept(text, o, buffer);
-    if a.fault != 0 {
-        return a;
-    }
-    let e = concept(text, a, buffer);
-    if e.fault != 0 {
-        return e;
-    }
-    let i = last(a);
-    let j = last(e);
-    finish(text, e, buffer, 32, i, j, 2)
-}
 
-// The axioms from a step on, and their records. Calls nest at most 85 deep, since an axiom has three records or more.
-pub(crate) fn axioms(text: &[u8], s: Step, buffer: &mut [u8; 765]) -> Step
-    requires { Sane text.now s }
-    ensures { AxiomsRead text.now s buffer.old result buffer.new }
-{
-    let at = s.at;
-    let t = next_token(text, at);
-    let w = t.word;
-    let k = code(w);
-    if k == 64 {
-        return moved(s, t.next);
+    // A parenthesis.
+    fn expect(&mut self, wanted: Word) -> Result<(), Refusal>
+        ensures reads { Expects wanted self.old result self.new }
+        ensures stays { OnOk result (Stays self.old self.new) }
+    {
+        let (word, place) = self.next();
+        if word == wanted {
+            Ok(())
+        } else {
+            Err(Self::wrong(word, place))
+        }
     }
-    if k != 32 {
-        return wrong(s, k, t.place);
+
+    // A form or a name begins, and counts as a record.
+    fn begin(&mut self) -> Result<(), Refusal>
+        ensures reads { BeginningRead self.old result self.new }
+        ensures opens { OnOk result (Opens self.old self.new) }
+    {
+        if self.room == 0 {
+            return Err(Refusal::of(Reason::TooManyRecords));
+        }
+        self.room -= 1;
+        Ok(())
     }
-    let room = s.room;
-    if room == 0 {
-        return refuse(s, 3, 0);
+
+    // A record that is written as it begins. A record's first byte is its kind.
+    fn leaf(&mut self, bytes: &[u8]) -> Result<u8, Refusal>
+        requires { length bytes.now ≤ 3 }
+        ensures reads { LeafRead bytes.now self.old result self.new }
+        ensures moves { OnOk result (Moves self.old self.new) }
+    {
+        self.begin()?;
+        Ok(self.sheet.put(bytes))
     }
-    let b = begun(s, t.next);
-    let x = axiom(text, b, buffer);
-    if x.fault != 0 {
-        return x;
+
+    // A form begins, and opens its parenthesis.
+    fn open(&mut self) -> Result<(), Refusal>
+        ensures reads { OpeningRead self.old result self.new }
+        ensures opens { OnOk result (Opens self.old self.new) }
+    {
+        self.begin()?;
+        self.expect(Word::Opening)
     }
-    axioms(text, x, buffer)
+
+    // Closes a form and writes its record.
+    fn close(&mut self, bytes: &[u8]) -> Result<u8, Refusal>
+        requires few { self.old.sheet.count + self.old.room < 255 }
+        requires short { length bytes.now ≤ 3 }
+        ensures reads { ClosingRead bytes.now self.old result self.new }
+        ensures closes { OnOk result (Closes self.old self.new) }
+    {
+        self.expect(Word::Closing)?;
+        Ok(self.sheet.put(bytes))
+    }
+
+    // A named property that is no record of its own.
+    fn property(&mut self) -> Result<u8, Refusal>
+        ensures reads { PropertyRead self.old result self.new }
+        ensures moves { OnOk result (Moves self.old self.new) }
+    {
+        let (word, place) = self.next();
+        match word {
+            Word::PropertyNamed(n) => Ok(n),
+            _ => Err(Self::wrong(word, place)),
+        }
+    }
+
+    // A role and its record.
+    fn role(&mut self) -> Result<u8, Refusal>
+        ensures reads { RoleRead self.old result self.new }
+        ensures moves { OnOk result (Moves self.old self.new) }
+    {
+        let (word, place) = self.next();
+        match word {
+            Word::PropertyNamed(n) => self.leaf(&[0x10, n]),
+            Word::InverseOf => {
+                self.open()?;
+                let n = self.property()?;
+                self.close(&[0x11, n])
+            }
+            _ => Err(Self::wrong(word, place)),
+        }
+    }
+
+    // A concept and its records.
+    #[cycle(concept)]
+    fn concept(&mut self) -> Result<u8, Refusal>
+        ensures reads { ConceptRead self.old result self.new }
+        ensures moves { OnOk result (Moves self.old self.new) }
+    {
+        let (word, place) = self.next();
+        match word {
+            Word::Thing => self.leaf(&[0x01]),
+            Word::Nothing => self.leaf(&[0x02]),
+            Word::ClassNamed(n) => self.leaf(&[0x03, n]),
+            Word::ComplementOf => {
+                self.open()?;
+                let i = self.concept()?;
+                self.close(&[0x04, i])
+            }
+            Word::IntersectionOf => self.pair(0x05),
+            Word::UnionOf => self.pair(0x06),
+            Word::SomeValuesFrom => self.restriction(0x07),
+            Word::AllValuesFrom => self.restriction(0x08),
+            _ => Err(Self::wrong(word, place)),
+        }
+    }
+
+    // Two concepts in parentheses, and the record of the form.
+    #[cycle(concept)]
+    fn pair(&mut self, kind: u8) -> Result<u8, Refusal>
+        ensures reads { PairRead kind self.old result self.new }
+        ensures moves { OnOk result (Moves self.old self.new) }
+        ensures falls { OnOk result (self.new.room < self.old.room) }
+    {
+        self.open()?;
+        let left = self.concept()?;
+        let right = self.concept()?;
+        self.close(&[kind, left, right])
+    }
+
+    // A role and a concept in parentheses, and the record of the form.
+    // Not one function with `pair`: one that takes the operand's method would promise by its calls what is read.
+    #[cycle(concept)]
+    fn restriction(&mut self, kind: u8) -> Result<u8, Refusal>
+        ensures reads { RestrictionRead kind self.old result self.new }
+        ensures moves { OnOk result (Moves self.old self.new) }
+    {
+        self.open()?;
+        let role = self.role()?;
+        let filler = self.concept()?;
+        self.close(&[kind, role, filler])
+    }
+
+    // Axioms to the text's end, and their records.
+    pub(crate) fn axioms(&mut self) -> Result<(), Refusal>
+        ensures { AxiomsRead self.old result self.new }
+    {
+        loop {
+            let (word, place) = self.next();
+            match word {
+                Word::Ending => return Ok(()),
+                Word::SubClassOf => {
+                    self.pair(0x20)?;
+                }
+                _ => return Err(Self::wrong(word, place)),
+            }
+        }
+    }
 }

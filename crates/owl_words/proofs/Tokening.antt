@@ -1,148 +1,115 @@
 -- Laws of the tokens of a text, byte by byte.
-use Prim.Native.Nat.{ℕ, suc, ◌+◌, ◌-◌, ◌≤◌, ◌<◌}
-use mathlib.Core.Path.{◌≡◌, refl, sym, ap, ◌∙◌}
-use mathlib.Core.Bool.{Bool, true, false, ◌&&◌}
-use mathlib.Core.List.{List, [], ◌∷◌, ◌++◌, append_assoc, append-nil}
-use lib.ListN.{length, get_or, take, drop, length-drop, drop_of_length-le}
-use lib.Seq.{drop-cons, take-suc, get_or-drop}
-use lib.Dec.{eqb}
-use native.Mathlib.Omega.{arith}
-use native.Mathlib.Numerals.{add-one}
-use borrow.Author.Tests.{eq-eqb, ne_eqb}
+use Rattle.std.proofs.Common.{◌≡◌, ◌≢◌, ℕ, zero, suc, ◌≤◌, ◌<◌, List, [], ◌∷◌, length, length-drop, map, take, drop, refl, sym, ap, ◌∙◌, true, false, cond, ◌&&◌, eqb, arith, Bor, Option, Some, None, MatchOption}
+use Rattle.std.specs.List.{take_while, HoldsAt, AllWithin}
+use Rattle.std.proofs.lemmas.Bool.{eqb-true, eq-eqb}
+use Rattle.std.proofs.lemmas.List.Sums.{take_while-cons}
+use borrow.Author.Tests.{ne_eqb}
+use Rattle.owl_words.specs.declared.Word.{Word}
 use Rattle.owl_words.specs.declared.Found.{Found}
-use Rattle.owl_words.specs.declared.Word.TheVariants.{Opening, Closing, Ending}
-use Rattle.owl_words.specs.Words.{is_blank_lem, in_word, same_bytes, known, skip, letters, past, Token, token, front, Ended, Finds}
+use Rattle.owl_words.specs.declared.TheConstants.{KNOWN_WORDS}
+use Rattle.owl_words.specs.declared.Word.TheVariants.{Unknown, Opening, Closing, Ending}
+use Rattle.owl_words.specs.Words.{is_blank_lem, in_word, same_bytes, spelled, known_words, spelling, digits, known, spelled_in, skip, letters, past, token, front, Finds}
+use Rattle.output.specs.Text.{text}
 
--- blanks passed
-pub skip-blank : (s : List ℕ) (i : ℕ) → i < length s → is_blank_lem (get_or s i 0) ≡ true → skip (drop (i + 1) s) ≡ skip (drop i s)
+pub in_table : (s : List ℕ) → spelled_in (map (λ k. (k.0.now, k.1)) KNOWN_WORDS) s ≡ known s
+unfolding spelled_in known spelled known_words spelling digits text
+in_table s = refl
+
+-- bytes are the same just where lists of them are equal
+pub same_equal : (s t : List ℕ) → s ≡ t → same_bytes s t ≡ true
+unfolding same_bytes
+same_equal [] [] e = refl
+same_equal [] (b ∷ t) e = absurd (cc)
+same_equal (a ∷ s) [] e = absurd (cc)
+same_equal (a ∷ s) (b ∷ t) e = let h : a ≡ b = cc in let k : s ≡ t = cc in rw (eq-eqb a b h) (same_equal s t k)
+
+pub same_other : (s t : List ℕ) → s ≢ t → same_bytes s t ≡ false
+unfolding same_bytes
+same_other [] [] h = absurd (h refl)
+same_other [] (b ∷ t) h = refl
+same_other (a ∷ s) [] h = refl
+same_other (a ∷ s) (b ∷ t) h =
+    elim (eqb a b) as (λ x. (x ≡ true → a ≡ b) → x && same_bytes s t ≡ false) [
+      | true ↦ λ k. same_other s t (λ e. h (let q : a ≡ b = k refl in cc))
+      | false ↦ λ k. refl
+    ] (eqb-true a b)
+
+-- what a search of a table finds
+abbrev pub entry : Type 0
+entry = Bor (List ℕ) × Word
+
+abbrev pub plain : List entry → List (List ℕ × Word)
+plain = map (λ k. (k.0.now, k.1))
+
+found_none : (ks : List entry) (s : List ℕ) → AllWithin (λ k. k.0.now ≢ s) ks 0 (length ks) → spelled_in (plain ks) s ≡ Unknown
+unfolding spelled_in
+found_none [] s h = refl
+found_none (k ∷ ks) s h =
+    rw (same_other s k.0.now (λ e. h 0 k (omega arith) (omega arith) (sym e)))
+    (found_none ks s (λ n d lo hi. h (suc n) d (omega arith) (omega arith)))
+
+found_some : (ks : List entry) (s : List ℕ) (e : entry) → e.0.now ≡ s → (i : ℕ) → i < length ks → HoldsAt (λ y. y ≡ e) ks i →
+    AllWithin (λ k. k.0.now ≢ s) ks 0 i → spelled_in (plain ks) s ≡ e.1
+unfolding spelled_in
+found_some [] s e h i l at others = absurd (omega arith)
+found_some (k ∷ ks) s e h zero l at others =
+    let is : k ≡ e = at k in
+    rw (same_equal s k.0.now (sym h ∙ sym (ap (λ (x : entry). x.0.now) is))) (ap (λ (x : entry). x.1) is)
+found_some (k ∷ ks) s e h (suc i) l at others =
+    rw (same_other s k.0.now (λ q. others 0 k (omega arith) (omega arith) (sym q)))
+    (found_some ks s e h i (omega arith) at (λ n d lo hi. others (suc n) d (omega arith) (omega arith)))
+
+-- the word of what it found, or no known one
+pub found_entry : (ks : List entry) (s : List ℕ) (r : Option (Bor entry)) →
+    MatchOption r (AllWithin (λ k. k.0.now ≢ s) ks 0 (length ks))
+    (λ x. (x.now.0.now ≡ s) × (i : ℕ) × (i < length ks) × HoldsAt (λ y. y ≡ x.now) ks i × AllWithin (λ k. k.0.now ≢ s) ks 0 i) →
+    (w : Word) → MatchOption r (w ≡ Unknown) (λ x. w ≡ x.now.1) → w ≡ spelled_in (plain ks) s
+found_entry ks s None h w e = e ∙ sym (found_none ks s h)
+found_entry ks s (Some x) h w e = e ∙ sym (found_some ks s x.now h.0 h.1 h.2 h.3 h.4)
+
+-- bytes in front that pass a test, and the others
+pub skip_is : (s : List ℕ) → drop (length (take_while is_blank_lem s)) s ≡ skip s
 unfolding skip
-skip-blank s i l b = rw (drop-cons s i 0 l, b, add-one)
+skip_is [] = refl
+skip_is (b ∷ s) =
+    rw (take_while-cons is_blank_lem b s)
+    (elim (is_blank_lem b) as (λ v. drop (length (cond v (b ∷ take_while is_blank_lem s) [])) (b ∷ s) ≡ cond v (skip s) (b ∷ s)) [
+      | true ↦ skip_is s
+      | false ↦ refl
+    ])
 
-pub skip_stop : (s : List ℕ) (i : ℕ) → i < length s → is_blank_lem (get_or s i 0) ≡ false → drop i s ≡ skip (drop i s)
-unfolding skip
-skip_stop s i l b = rw (drop-cons s i 0 l, b)
+pub word_is : (s : List ℕ) → (take (length (take_while in_word s)) s ≡ letters s) × (drop (length (take_while in_word s)) s ≡ past s)
+unfolding letters past
+word_is [] = (refl, refl)
+word_is (b ∷ s) =
+    rw (take_while-cons in_word b s)
+    (elim (in_word b) as (λ v. let w = cond v (b ∷ take_while in_word s) [] in (take (length w) (b ∷ s) ≡ cond v (b ∷ letters s) []) × (drop (length w) (b ∷ s) ≡ cond v (past s) (b ∷ s))) [
+      | true ↦ let h = word_is s in (ap (λ (x : List ℕ). b ∷ x) h.0, h.1)
+      | false ↦ (refl, refl)
+    ])
 
-pub skip_end : (s : List ℕ) (i : ℕ) → length s ≤ i → drop i s ≡ skip (drop i s)
-unfolding skip
-skip_end s i l = rw (drop_of_length-le s {i = i} l)
-
--- a word's bytes passed
-pub record Passed (s : List ℕ) (at i : ℕ) : Type 0 where
-  pub low : at ≤ i
-  pub high : i ≤ length s
-  pub same : past (drop i s) ≡ past (drop at s)
-  pub word : take (i - at) (drop at s) ++ letters (drop i s) ≡ letters (drop at s)
-
-pub passed_none : (s : List ℕ) (at : ℕ) → at ≤ length s → Passed s at at
-passed_none s at h = record { low = omega arith; high = h; same = refl; word = none }
-  where
-    none : take (at - at) (drop at s) ++ letters (drop at s) ≡ letters (drop at s)
-    none = let e : at - at ≡ 0 = omega arith in rw e
-
-pub passed_more : (s : List ℕ) (at i : ℕ) → Passed s at i → i < length s → in_word (get_or s i 0) ≡ true → Passed s at (i + 1)
-unfolding past letters
-passed_more s at i p l b =
-    record {
-      low = omega (arith, p.low);
-      high = omega arith;
-      same = one.0 ∙ p.same;
-      word = two;
-    }
-  where
-    one : (past (drop (i + 1) s) ≡ past (drop i s)) × (letters (drop i s) ≡ get_or s i 0 ∷ letters (drop (i + 1) s))
-    one = (rw (drop-cons s i 0 l, b, add-one), rw (drop-cons s i 0 l, b, add-one))
-
-    longer : take (suc (i - at)) (drop at s) ≡ take (i - at) (drop at s) ++ (get_or s i 0 ∷ [])
-    longer =
-        let e : at + (i - at) ≡ i = omega (arith, p.low) in
-        take-suc (drop at s) (i - at) 0 (omega (arith, length-drop at s, p.low)) ∙ rw (get_or-drop at s (i - at) 0, e)
-
-    two : take (i + 1 - at) (drop at s) ++ letters (drop (i + 1) s) ≡ letters (drop at s)
-    two =
-        let e : i + 1 - at ≡ suc (i - at) = omega (arith, p.low) in
-        rw (e, longer, append_assoc (take (i - at) (drop at s)) (get_or s i 0 ∷ []) (letters (drop (i + 1) s)), ← one.1) p.word
-
-ended : (s : List ℕ) (at i : ℕ) → Passed s at i → past (drop i s) ≡ drop i s → letters (drop i s) ≡ [] → Ended s at i
-ended s at i p e f = record { low = p.low; high = p.high; rest = sym e ∙ p.same; word = sym (append-nil (take (i - at) (drop at s))) ∙ rw (← f) p.word }
-
-pub passed_stop : (s : List ℕ) (at i : ℕ) → Passed s at i → i < length s → in_word (get_or s i 0) ≡ false → Ended s at i
-unfolding past letters
-passed_stop s at i p l b = ended s at i p (rw (drop-cons s i 0 l, b)) (rw (drop-cons s i 0 l, b))
-
-pub passed_end : (s : List ℕ) (at i : ℕ) → Passed s at i → length s ≤ i → Ended s at i
-unfolding past letters
-passed_end s at i p l = ended s at i p (rw (drop_of_length-le s {i = i} l)) (rw (drop_of_length-le s {i = i} l))
-
--- two lists of bytes
-pub same_longer : (s t : List ℕ) → (length s ≡ length t → ⊥) → same_bytes s t ≡ false
-unfolding same_bytes
-same_longer [] [] h = absurd (h refl)
-same_longer [] (b ∷ t) h = refl
-same_longer (a ∷ s) [] h = refl
-same_longer (a ∷ s) (b ∷ t) h = rw (same_longer s t (λ e. h (omega arith))) (go (eqb a b))
-  where
-    go : (x : Bool) → x && false ≡ false
-    go true = refl
-    go false = refl
-
-pub same_step : (s t : List ℕ) (i : ℕ) → i < length s → i < length t → get_or s i 0 ≡ get_or t i 0 → same_bytes (drop (i + 1) s) (drop (i + 1) t) ≡ same_bytes (drop i s) (drop i t)
-unfolding same_bytes
-same_step s t i l m e = rw (drop-cons s i 0 l, drop-cons t i 0 m, add-one, eq-eqb (get_or s i 0) (get_or t i 0) e)
-
-pub same_stop : (s t : List ℕ) (i : ℕ) → i < length s → i < length t → (get_or s i 0 ≡ get_or t i 0 → ⊥) → same_bytes (drop i s) (drop i t) ≡ false
-unfolding same_bytes
-same_stop s t i l m e = rw (drop-cons s i 0 l, drop-cons t i 0 m, ne_eqb (get_or s i 0) (get_or t i 0) e)
-
-pub same_end : (s t : List ℕ) (i : ℕ) → length s ≤ i → length t ≤ i → same_bytes (drop i s) (drop i t) ≡ true
-unfolding same_bytes
-same_end s t i l m = rw (drop_of_length-le s {i = i} l, drop_of_length-le t {i = i} m)
-
--- the token that is found
-module _ (text : List ℕ) (at i : ℕ) (r : Found) (k : drop i text ≡ skip (drop at text)) (place : r.place ≡ i) where
-  pub finds_ending : i ≡ length text → r.word ≡ Ending → r.next ≡ i → Finds text at r
+-- the token that is found in front of what stands after the blanks
+module _ (text s : List ℕ) (at : s ≡ skip text) (r : Found) (left : r.left ≡ length s) (within : length s ≤ length text) where
+  pub finds_ending : s ≡ [] → r.word ≡ Ending → r.rest.now ≡ s → Finds text r
   unfolding front
-  finds_ending e w n =
+  finds_ending e w n = record { word = rw (← at, e) w; left = rw (← at, e) (left ∙ ap length e); rest = rw (← at, e) (n ∙ e); within = omega arith; shorter = omega (arith, ap length e, ap length n) }
+
+  pub finds_opening : (b : ℕ) (x : List ℕ) → s ≡ b ∷ x → b ≡ 40 → r.word ≡ Opening → r.rest.now ≡ x → Finds text r
+  unfolding front
+  finds_opening b x e h w n = record { word = rw (← at, e, h) w; left = rw (← at, e, h) (left ∙ ap length e); rest = rw (← at, e, h) n; within = omega arith; shorter = omega (arith, ap length e, ap length n) }
+
+  pub finds_closing : (b : ℕ) (x : List ℕ) → s ≡ b ∷ x → b ≡ 41 → r.word ≡ Closing → r.rest.now ≡ x → Finds text r
+  unfolding front
+  finds_closing b x e h w n = record { word = rw (← at, e, h) w; left = rw (← at, e, h) (left ∙ ap length e); rest = rw (← at, e, h) n; within = omega arith; shorter = omega (arith, ap length e, ap length n) }
+
+  pub finds_word : (b : ℕ) (x : List ℕ) → s ≡ b ∷ x → b ≢ 40 → b ≢ 41 → (n : ℕ) → n ≡ length (take_while in_word s) → r.word ≡ known (take n s) → r.rest.now ≡ drop n s → Finds text r
+  unfolding front
+  finds_word b x e h k n m w y =
+      let c : front s ≡ token (known (letters s)) (length s) (past s) = rw (e, ne_eqb b 40 h, ne_eqb b 41 k) in
       record {
-        word = rw (← k, drop_of_length-le text {i = i} (omega arith)) w;
-        place = rw (← k, drop_of_length-le text {i = i} (omega arith)) (omega arith);
-        rest = rw (← k, n, drop_of_length-le text {i = i} (omega arith));
-        inside = omega arith;
+        word = rw (← at, c) (w ∙ ap known (ap (λ (i : ℕ). take i s) m ∙ (word_is s).0));
+        left = rw (← at, c) left;
+        rest = rw (← at, c) (y ∙ ap (λ (i : ℕ). drop i s) m ∙ (word_is s).1);
         within = omega arith;
+        shorter = omega (arith, ap length y, length-drop n s);
       }
-
-  pub finds_opening : i < length text → get_or text i 0 ≡ 40 → r.word ≡ Opening → r.next ≡ i + 1 → Finds text at r
-  unfolding front
-  finds_opening l b w n =
-      record {
-        word = rw (← k, drop-cons text i 0 l, b) w;
-        place = rw (← k, drop-cons text i 0 l, b) (omega (arith, length-drop (suc i) text));
-        rest = rw (← k, drop-cons text i 0 l, b, n, add-one);
-        inside = omega arith;
-        within = omega arith;
-      }
-
-  pub finds_closing : i < length text → get_or text i 0 ≡ 41 → r.word ≡ Closing → r.next ≡ i + 1 → Finds text at r
-  unfolding front
-  finds_closing l b w n =
-      record {
-        word = rw (← k, drop-cons text i 0 l, b) w;
-        place = rw (← k, drop-cons text i 0 l, b) (omega (arith, length-drop (suc i) text));
-        rest = rw (← k, drop-cons text i 0 l, b, n, add-one);
-        inside = omega arith;
-        within = omega arith;
-      }
-
-  pub finds_word : (e : ℕ) → i < length text → (get_or text i 0 ≡ 40 → ⊥) → (get_or text i 0 ≡ 41 → ⊥) → Ended text i e → r.word ≡ known (take (e - i) (drop i text)) →
-      r.next ≡ e → Finds text at r
-  unfolding front
-  finds_word e l x y d w n =
-      record {
-        word = rw (← k) (w ∙ ap known d.word ∙ sym (ap (λ (t : Token). t.word) whole));
-        place = rw (← k, whole) (omega (arith, length-drop i text));
-        rest = rw (← k, whole, n) d.rest;
-        inside = omega arith;
-        within = omega (arith, d.high);
-      }
-    where
-      whole : front (drop i text) ≡ token (known (letters (drop i text))) (length (drop i text)) (past (drop i text))
-      whole = rw (drop-cons text i 0 l, ne_eqb (get_or text i 0) 40 x, ne_eqb (get_or text i 0) 41 y)

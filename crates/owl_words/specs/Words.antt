@@ -1,5 +1,5 @@
 -- The tokens of a text (02, N7: "words are parted by spaces or line feeds, and parentheses need none").
-use Rattle.std.specs.Prelude.{◌≡◌, ℕ, suc, ◌+◌, ◌-◌, ◌≤◌, Bool, true, false, cond, not, ◌&&◌, ◌||◌, eqb, ltb, List, [], ◌∷◌, ◌++◌, length, take, drop}
+use Rattle.std.specs.Prelude.{◌≡◌, ℕ, suc, ◌+◌, ◌≤◌, Bool, true, false, cond, not, ◌&&◌, ◌||◌, eqb, ltb, List, [], ◌∷◌, ◌++◌, length}
 use Rattle.output.specs.Text.{text}
 use Rattle.owl_words.specs.declared.Word.{Word}
 use Rattle.owl_words.specs.declared.Found.{Found}
@@ -28,20 +28,12 @@ spelling Unknown = []
 spelling Ending = []
 
 -- the known words; "names are `:t0` to `:t11` and `:k0` to `:k3`"
-unfoldable pub property_words : List Word
-property_words = PropertyNamed 0 ∷ PropertyNamed 1 ∷ PropertyNamed 2 ∷ PropertyNamed 3 ∷ []
-
-unfoldable pub upper_words : List Word
-upper_words = ClassNamed 6 ∷ ClassNamed 7 ∷ ClassNamed 8 ∷ ClassNamed 9 ∷ ClassNamed 10 ∷ ClassNamed 11 ∷ property_words
-
-unfoldable pub name_words : List Word
-name_words = ClassNamed 0 ∷ ClassNamed 1 ∷ ClassNamed 2 ∷ ClassNamed 3 ∷ ClassNamed 4 ∷ ClassNamed 5 ∷ upper_words
-
-unfoldable pub lower_forms : List Word
-lower_forms = AllValuesFrom ∷ InverseOf ∷ Thing ∷ Nothing ∷ name_words
-
 unfoldable pub known_words : List Word
-known_words = SubClassOf ∷ IntersectionOf ∷ UnionOf ∷ ComplementOf ∷ SomeValuesFrom ∷ lower_forms
+known_words =
+    SubClassOf ∷ IntersectionOf ∷ UnionOf ∷ ComplementOf ∷ SomeValuesFrom ∷ AllValuesFrom ∷ InverseOf ∷ Thing ∷ Nothing
+    ∷ ClassNamed 0 ∷ ClassNamed 1 ∷ ClassNamed 2 ∷ ClassNamed 3 ∷ ClassNamed 4 ∷ ClassNamed 5
+    ∷ ClassNamed 6 ∷ ClassNamed 7 ∷ ClassNamed 8 ∷ ClassNamed 9 ∷ ClassNamed 10 ∷ ClassNamed 11
+    ∷ PropertyNamed 0 ∷ PropertyNamed 1 ∷ PropertyNamed 2 ∷ PropertyNamed 3 ∷ []
 
 unfoldable pub same_bytes : List ℕ → List ℕ → Bool
 same_bytes [] [] = true
@@ -56,6 +48,11 @@ spelled (w ∷ ws) s = cond (same_bytes s (spelling w)) w (spelled ws s)
 
 unfoldable pub known : List ℕ → Word
 known s = spelled known_words s
+
+-- the same in a table of spellings and words
+unfoldable pub spelled_in : List (List ℕ × Word) → List ℕ → Word
+spelled_in [] s = Unknown
+spelled_in (k ∷ ks) s = cond (same_bytes s k.0) k.1 (spelled_in ks s)
 
 -- a space or a line feed; what a word is made of
 abbrev pub is_blank_lem : ℕ → Bool
@@ -97,17 +94,10 @@ front (b ∷ s) =
 abbrev pub next : List ℕ → Token
 next s = front (skip s)
 
--- what the code finds from a place on: the word, its place, and the place after it
-pub record Finds (text : List ℕ) (at : ℕ) (r : Found) : Type 0 where
-  pub word : r.word ≡ (next (drop at text)).word
-  pub place : length text - r.place ≡ (next (drop at text)).left
-  pub rest : drop r.next text ≡ (next (drop at text)).rest
-  pub inside : r.place ≤ length text
-  pub within : r.next ≤ length text
-
--- where a word ends
-pub record Ended (s : List ℕ) (at i : ℕ) : Type 0 where
-  pub low : at ≤ i
-  pub high : i ≤ length s
-  pub rest : drop i s ≡ past (drop at s)
-  pub word : take (i - at) (drop at s) ≡ letters (drop at s)
+-- what the code finds in front of a text: the word, how many bytes are left where it begins, and what stands after it
+pub record Finds (text : List ℕ) (r : Found) : Type 0 where
+  pub word : r.word ≡ (next text).word
+  pub left : r.left ≡ (next text).left
+  pub rest : r.rest.now ≡ (next text).rest
+  pub within : r.left ≤ length text
+  pub shorter : length r.rest.now ≤ length text

@@ -1,11 +1,13 @@
 // The tokens of a text: words parted by spaces or line feeds, and parentheses, which need none.
 #![tactic(auto)]
 
-ghost use Rattle.std.specs.Prelude.{◌≡◌, ◌-◌, ◌≤◌, length, take, drop};
-ghost use Rattle.owl_words.specs.Words.{is_blank_lem, in_word, same_bytes, spelled, known_words, lower_forms, name_words, upper_words, property_words, known, skip as skipped, Ended, Finds};
+ghost use Rattle.std.specs.Prelude.{◌≡◌, length, map};
+ghost use Rattle.std.specs.List.{take_while};
+ghost use Rattle.owl_words.specs.Words.{is_blank_lem, in_word, spelled_in, known, Finds};
 
 // A token's word: the known ones, the two parentheses, any other word, and the end of the text.
-#[derive(Clone, Copy)]
+// The last two are no `None`, since in the definitions of the grammar each token is one word.
+#[derive(Clone, Copy, PartialEq, Eq)]
 pub enum Word {
     SubClassOf,
     IntersectionOf,
@@ -24,218 +26,117 @@ pub enum Word {
     Ending,
 }
 
-// A token: its word, the byte where it begins, and the byte after it.
+// A token: its word, how many bytes are left where it begins, and what stands after it.
 #[derive(Clone, Copy)]
-pub struct Found {
+pub struct Found<'a> {
     pub word: Word,
-    pub place: usize,
-    pub next: usize,
+    pub left: usize,
+    pub rest: &'a [u8],
 }
+
+// The known words but parentheses.
+const KNOWN_WORDS: [(&[u8], Word); 25] = [
+    (b"SubClassOf", Word::SubClassOf),
+    (b"ObjectIntersectionOf", Word::IntersectionOf),
+    (b"ObjectUnionOf", Word::UnionOf),
+    (b"ObjectComplementOf", Word::ComplementOf),
+    (b"ObjectSomeValuesFrom", Word::SomeValuesFrom),
+    (b"ObjectAllValuesFrom", Word::AllValuesFrom),
+    (b"ObjectInverseOf", Word::InverseOf),
+    (b"owl:Thing", Word::Thing),
+    (b"owl:Nothing", Word::Nothing),
+    (b":t0", Word::ClassNamed(0)),
+    (b":t1", Word::ClassNamed(1)),
+    (b":t2", Word::ClassNamed(2)),
+    (b":t3", Word::ClassNamed(3)),
+    (b":t4", Word::ClassNamed(4)),
+    (b":t5", Word::ClassNamed(5)),
+    (b":t6", Word::ClassNamed(6)),
+    (b":t7", Word::ClassNamed(7)),
+    (b":t8", Word::ClassNamed(8)),
+    (b":t9", Word::ClassNamed(9)),
+    (b":t10", Word::ClassNamed(10)),
+    (b":t11", Word::ClassNamed(11)),
+    (b":k0", Word::PropertyNamed(0)),
+    (b":k1", Word::PropertyNamed(1)),
+    (b":k2", Word::PropertyNamed(2)),
+    (b":k3", Word::PropertyNamed(3)),
+];
 
 fn is_blank(b: u8) -> bool
     ensures { result ≡ is_blank_lem b }
 {
-    if b == 32 {
-        return true;
-    }
-    b == 10
+    b == b' ' || b == b'\n'
 }
 
 fn in_word(b: u8) -> bool
     ensures { result ≡ in_word b }
 {
-    if is_blank(b) {
-        return false;
-    }
-    if b == 40 {
-        return false;
-    }
-    b != 41
+    !is_blank(b) && b != b'(' && b != b')'
 }
 
-// The first byte from `at` on that is no blank, or the text's end.
-fn skip(text: &[u8], at: usize) -> usize
-    requires { at ≤ length text.now }
-    ensures { (result ≤ length text.now) × (drop result text.now ≡ skipped (drop at text.now)) }
+// How many blanks a text begins with. Here and below two functions: one over any test would promise less plainly what it counts.
+fn blank_len(text: &[u8]) -> usize
+    ensures { result ≡ length (take_while is_blank_lem text.now) }
 {
-    let mut i = at;
-    while i < text.len() {
-        if !is_blank(text[i]) {
-            return i;
-        }
-        i += 1;
-    }
-    i
+    text.iter().take_while(|b| is_blank(**b)).count()
 }
 
-// The end of the word that begins at `at`.
-fn word_end(text: &[u8], at: usize) -> usize
-    requires { at ≤ length text.now }
-    ensures { Ended text.now at result }
+// How long the word is that a text begins with.
+fn word_len(text: &[u8]) -> usize
+    ensures { result ≡ length (take_while in_word text.now) }
 {
-    let mut i = at;
-    while i < text.len() {
-        if !in_word(text[i]) {
-            return i;
-        }
-        i += 1;
-    }
-    i
+    text.iter().take_while(|b| in_word(**b)).count()
 }
 
-fn same(w: &[u8], k: &[u8]) -> bool
-    ensures { result ≡ same_bytes w.now k.now }
+// The word of the first entry that is spelled so.
+fn lookup(table: &[(&[u8], Word)], w: &[u8]) -> Word
+    ensures { result ≡ spelled_in (map (λ k. (k.0.now, k.1)) table.now) w.now }
 {
-    if w.len() != k.len() {
-        return false;
-    }
-    let mut i = 0;
-    while i < w.len() {
-        if w[i] != k[i] {
-            return false;
-        }
-        i += 1;
-    }
-    true
-}
-
-// The names of properties.
-fn property_word(w: &[u8]) -> Word
-    ensures { result ≡ spelled property_words w.now }
-{
-    if same(w, b":k0") {
-        return Word::PropertyNamed(0);
-    }
-    if same(w, b":k1") {
-        return Word::PropertyNamed(1);
-    }
-    if same(w, b":k2") {
-        return Word::PropertyNamed(2);
-    }
-    if same(w, b":k3") {
-        return Word::PropertyNamed(3);
-    }
-    Word::Unknown
-}
-
-// The names of classes from 6 on, then those of properties.
-fn upper_word(w: &[u8]) -> Word
-    ensures { result ≡ spelled upper_words w.now }
-{
-    if same(w, b":t6") {
-        return Word::ClassNamed(6);
-    }
-    if same(w, b":t7") {
-        return Word::ClassNamed(7);
-    }
-    if same(w, b":t8") {
-        return Word::ClassNamed(8);
-    }
-    if same(w, b":t9") {
-        return Word::ClassNamed(9);
-    }
-    if same(w, b":t10") {
-        return Word::ClassNamed(10);
-    }
-    if same(w, b":t11") {
-        return Word::ClassNamed(11);
-    }
-    property_word(w)
-}
-
-// The names.
-fn name_word(w: &[u8]) -> Word
-    ensures { result ≡ spelled name_words w.now }
-{
-    if same(w, b":t0") {
-        return Word::ClassNamed(0);
-    }
-    if same(w, b":t1") {
-        return Word::ClassNamed(1);
-    }
-    if same(w, b":t2") {
-        return Word::ClassNamed(2);
-    }
-    if same(w, b":t3") {
-        return Word::ClassNamed(3);
-    }
-    if same(w, b":t4") {
-        return Word::ClassNamed(4);
-    }
-    if same(w, b":t5") {
-        return Word::ClassNamed(5);
-    }
-    upper_word(w)
-}
-
-// The words from ObjectAllValuesFrom on.
-fn lower_word(w: &[u8]) -> Word
-    ensures { result ≡ spelled lower_forms w.now }
-{
-    if same(w, b"ObjectAllValuesFrom") {
-        return Word::AllValuesFrom;
-    }
-    if same(w, b"ObjectInverseOf") {
-        return Word::InverseOf;
-    }
-    if same(w, b"owl:Thing") {
-        return Word::Thing;
-    }
-    if same(w, b"owl:Nothing") {
-        return Word::Nothing;
-    }
-    name_word(w)
+    table
+        .iter()
+        .find(|entry| entry.0 == w)
+        .map_or(Word::Unknown, |entry| entry.1)
 }
 
 // The known word that is spelled so.
 fn known_word(w: &[u8]) -> Word
-    ensures { result ≡ spelled known_words w.now }
+    ensures { result ≡ known w.now }
 {
-    if same(w, b"SubClassOf") {
-        return Word::SubClassOf;
-    }
-    if same(w, b"ObjectIntersectionOf") {
-        return Word::IntersectionOf;
-    }
-    if same(w, b"ObjectUnionOf") {
-        return Word::UnionOf;
-    }
-    if same(w, b"ObjectComplementOf") {
-        return Word::ComplementOf;
-    }
-    if same(w, b"ObjectSomeValuesFrom") {
-        return Word::SomeValuesFrom;
-    }
-    lower_word(w)
+    lookup(&KNOWN_WORDS, w)
 }
 
-fn token_at(word: Word, place: usize, next: usize) -> Found
-    ensures { (result.word ≡ word) × (result.place ≡ place) × (result.next ≡ next) }
+// The token that a text begins with.
+pub fn next_token(text: &[u8]) -> Found<'_>
+    ensures { Finds text.now result }
 {
-    Found {
-        word: word,
-        place: place,
-        next: next,
+    let s = &text[blank_len(text)..];
+    let left = s.len();
+    let Some((first, rest)) = s.split_first() else {
+        return Found {
+            word: Word::Ending,
+            left,
+            rest: s,
+        };
+    };
+    match *first {
+        b'(' => Found {
+            word: Word::Opening,
+            left,
+            rest,
+        },
+        b')' => Found {
+            word: Word::Closing,
+            left,
+            rest,
+        },
+        _ => {
+            let (word, rest) = s.split_at(word_len(s));
+            Found {
+                word: known_word(word),
+                left,
+                rest,
+            }
+        }
     }
-}
-
-// The token that a text begins with, from a place on.
-pub fn next_token(text: &[u8], at: usize) -> Found
-    requires { at ≤ length text.now }
-    ensures { Finds text.now at result }
-{
-    let i = skip(text, at);
-    if i == text.len() {
-        return token_at(Word::Ending, i, i);
-    }
-    let b = text[i];
-    if b == 40 {
-        return token_at(Word::Opening, i, i + 1);
-    }
-    if b == 41 {
-        return token_at(Word::Closing, i, i + 1);
-    }
-    let e = word_end(text, i);
-    let w = known_word(&text[i..e]);
-    token_at(w, i, e)
 }

@@ -7,8 +7,7 @@ use native.Mathlib.Omega.{arith}
 use lib.ListN.{length, length-append, length-map}
 use Rattle.queue.specs.declared.slots.SlotAnswer.{SlotAnswer}
 use Rattle.queue.specs.declared.slots.SlotAnswer.TheVariants.{Met, Unmet, Refused}
-use Rattle.queue.specs.declared.totals.Totals.{Totals}
-use Rattle.queue.specs.Queue.{slot_says, met_in, unmet_in, refused_in, survivors_in, sum, totals_of}
+use Rattle.queue.specs.Queue.{Sums, slot_says, met_in, unmet_in, refused_in, survivors_in, sum, totals_of}
 use Rattle.queue.specs.Lines.{most}
 use Rattle.queue.specs.Steps.{added, Reached, Small}
 use Rattle.queue.proofs.Alone.{slot_survivors}
@@ -52,25 +51,21 @@ totals_counted (a ∷ rest) = omega (arith, counted_one a, totals_counted rest)
 
 -- ---- the slots that came
 
--- none
-pub reached-none : Reached (totals_of [])
-reached-none = record { slots = []; few = omega arith; totals = refl }
-
 -- what a function gives for one more at the end
 map-added : {A B : Type 0} (f : A → B) (xs : List A) (x : A) → map f (xs ++ (x ∷ [])) ≡ map f xs ++ (f x ∷ [])
 map-added f [] x = refl
 map-added f (y ∷ ys) x = ap (λ l. f y ∷ l) (map-added f ys x)
 
 -- one more, if it may come
-pub reached-added : (t : Totals) (slot : List ℕ) → Reached t → t.sheets < most → Reached (added t (slot_says slot))
+pub reached-added : (t : Sums) (slot : List ℕ) → Reached t → t.sheets < most → Reached (added t (slot_says slot))
 reached-added t slot r h =
     let n : t.sheets ≡ length r.slots =
-    ap (λ (u : Totals). u.sheets) r.totals ∙ unfold totals_of in length-map r.slots slot_says in
+    ap (λ (u : Sums). u.sheets) r.totals ∙ unfold totals_of in length-map r.slots slot_says in
     record {
       slots = r.slots ++ (slot ∷ []);
       few = omega (arith, length-append r.slots (slot ∷ []));
       totals =
-          ap (λ (u : Totals). added u (slot_says slot)) r.totals ∙ sym (totals-added (map slot_says r.slots) (slot_says slot))
+          ap (λ (u : Sums). added u (slot_says slot)) r.totals ∙ sym (totals-added (map slot_says r.slots) (slot_says slot))
           ∙ ap totals_of (sym (map-added slot_says r.slots slot));
     }
 
@@ -83,7 +78,7 @@ survivors-small [] = omega arith
 survivors-small (slot ∷ rest) = omega (arith, slot_survivors slot, survivors-small rest)
 
 -- at most 4,096 of each kind, and 2^18 survivors for each sheet
-pub reached-small : (t : Totals) → Reached t → Small t
+pub reached-small : (t : Sums) → Reached t → Small t
 reached-small t r =
     let answers : List SlotAnswer = map slot_says r.slots in
     let n : (totals_of answers).sheets ≡ length r.slots = unfold totals_of in length-map r.slots slot_says in

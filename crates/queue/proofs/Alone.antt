@@ -10,7 +10,9 @@ use lib.ListN.{length}
 use borrow.Author.Tests.{eqb-true, eqb-false}
 use Rattle.syntax.specs.Reading.{read_kb}
 use Rattle.syntax.specs.Answers.{limit}
-use Rattle.domino.specs.declared.JudgeAnswer.{JudgeAnswer}
+use Rattle.std.specs.Prelude.{Result}
+use Rattle.refusals.specs.declared.Refusal.{Refusal}
+use Rattle.domino_settling.specs.declared.judging.Judgement.{Judgement}
 use Rattle.domino.specs.Answers.{judge_numbers, judge_says}
 use Rattle.domino.proofs.Judged.{judge_by-length, Forms, judge_forms}
 use Rattle.report.proofs.Worked.{set4096, many}
@@ -19,7 +21,7 @@ use Rattle.queue.specs.declared.slots.SlotAnswer.TheVariants.{Met, Unmet, Refuse
 use Rattle.queue.specs.Queue.{answer_of, alone, length_in, sheet_in, slot_says, survivors_in}
 
 -- with 4,096 words, whatever they hold, judge says what judging the sheet alone says
-pub alone-judged : (sheet ws : List ℕ) (r : JudgeAnswer) → length ws ≡ 4096 → judge_numbers r ≡ judge_says (read_kb limit sheet) ws
+pub alone-judged : (sheet ws : List ℕ) (r : Result Judgement Refusal) → length ws ≡ 4096 → judge_numbers r ≡ judge_says (read_kb limit sheet) ws
     → answer_of (judge_numbers r) ≡ alone sheet
 unfolding alone
 alone-judged sheet ws r h e = ap answer_of (e ∙ judge_by-length (read_kb limit sheet) ws set4096 (h ∙ sym many))

@@ -8,8 +8,7 @@ use lib.Dec.{eqb, ltb}
 use lib.ListN.{length, take}
 use lib.Seq.{length-take-le, take_all, take-take}
 use borrow.Author.Tests.{ltb-true, ltb-false}
-use Rattle.queue.specs.declared.totals.Totals.{Totals}
-use Rattle.queue.specs.Queue.{slot_says, kind_of, slot_first, slot_of, end_first}
+use Rattle.queue.specs.Queue.{Sums, slot_says, kind_of, slot_first, slot_of, end_first}
 use Rattle.queue.specs.Lines.{slot_line, last_line, most}
 use Rattle.queue.specs.Steps.{added, takes, step_totals, step_prints, wanted}
 
@@ -51,7 +50,7 @@ first-long input e = ltb-true 767 (length input) ((and-eq-true_iff (eqb (kind_of
 
 -- ---- what a step reads
 
-module _ (t : Totals) (input : List ℕ) where
+module _ (t : Sums) (input : List ℕ) where
   abbrev pub piece : List ℕ
   piece = take (wanted t.sheets (kind_of input)) input
 

@@ -4,34 +4,25 @@ use mathlib.Core.Path.{◌≡◌, sym, ap, ◌∙◌}
 use mathlib.Core.List.{List}
 use native.Mathlib.Omega.{arith}
 use lib.ListN.{length, get_or, take}
-use lib.Seq.{get_or-take}
+use lib.Seq.{get_or-take, length-take-le}
 use borrow.Rule.Slice.PartMut.{mid_of, put_mid, same_len_mid, mid_len, take_put}
-use Rattle.io.specs.Counts.{IsPrefixLen}
-use Rattle.io.proofs.Counting.{prefix_len_of_le}
-use Rattle.console.specs.Input.{Within}
-use Rattle.console.specs.declared.Input.{Input}
-use Rattle.console.specs.declared.Input.TheVariants.{Failed, Got}
 use Rattle.queue.specs.Queue.{kind_of}
-use Rattle.queue.specs.Steps.{wanted, ReadsStep}
+use Rattle.queue.specs.Steps.{wanted}
 use Rattle.queue.proofs.Fitting.{wanted-some, wanted-most}
 
 -- n bytes are wanted, and m of the n - 1 behind the first were read into the buffer, whose first byte stays
 module _ (sheets n m : ℕ) (buffer last : List ℕ) (long : length buffer ≡ 768) (all : n ≡ wanted sheets (get_or buffer 0 0)) where
   pub rest_read : length last ≡ length (mid_of 1 (n - 1) buffer) → m ≤ length last
-      → IsPrefixLen (1 + m) (put_mid 1 (n - 1) buffer last) × (1 + m ≤ wanted sheets (kind_of (put_mid 1 (n - 1) buffer last)))
+      → length (take (1 + m) (put_mid 1 (n - 1) buffer last)) ≤ wanted sheets (kind_of (take (1 + m) (put_mid 1 (n - 1) buffer last)))
   rest_read h few =
       let after = put_mid 1 (n - 1) buffer last in
-      let some : 1 ≤ n = omega (arith, all, wanted-some sheets (get_or buffer 0 0)) in
-      let most : n ≤ 768 = omega (arith, all, wanted-most sheets (get_or buffer 0 0)) in
+      let some = wanted-some _ _ _ all in
+      let most = wanted-most _ _ _ all in
       let mid = mid_len 1 n buffer (omega arith) in
       let same = same_len_mid 1 (n - 1) buffer last h in
       let front : take 1 after ≡ take 1 buffer = take_put 1 (n - 1) buffer last (omega arith) in
-      let kind : get_or after 0 0 ≡ get_or buffer 0 0 =
-      sym (get_or-take 1 after 0 0 (omega arith)) ∙ ap (λ (l : List ℕ). get_or l 0 0) front ∙ get_or-take 1 buffer 0 0 (omega arith) in
-      let w : wanted sheets (get_or after 0 0) ≡ n = ap (wanted sheets) kind ∙ sym all in
-      (prefix_len_of_le (1 + m) after (omega arith), omega arith)
-
--- what was read lies within the buffer
-pub read-within : (sheets : ℕ) (a : Input) (buffer : List ℕ) → ReadsStep sheets a buffer → Within a buffer
-read-within sheets Failed buffer r = r
-read-within sheets (Got n) buffer r = r.0
+      let kind : get_or (take (1 + m) after) 0 0 ≡ get_or buffer 0 0 =
+      get_or-take (1 + m) after 0 0 (omega arith) ∙ sym (get_or-take 1 after 0 0 (omega arith))
+      ∙ ap (λ (l : List ℕ). get_or l 0 0) front ∙ get_or-take 1 buffer 0 0 (omega arith) in
+      let w : wanted sheets (get_or (take (1 + m) after) 0 0) ≡ n = ap (wanted sheets) kind ∙ sym all in
+      omega (arith, length-take-le (1 + m) after (omega arith))

@@ -2,7 +2,6 @@ pub mod Alone
 pub mod Adding
 pub mod Cases
 pub mod Fitting
-pub mod Writing
 pub mod Intake
 pub mod Fronts
 pub mod Running

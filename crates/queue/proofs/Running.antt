@@ -12,8 +12,7 @@ use lib.Seq.{take-append-le, drop-append-le, take_at, drop_at}
 use borrow.Author.Tests.{lt-ltb, le-ltb, ltb-true, eqb-true}
 use Rattle.report.specs.Text.{text}
 use Rattle.queue.specs.declared.slots.SlotAnswer.{SlotAnswer}
-use Rattle.queue.specs.declared.totals.Totals.{Totals}
-use Rattle.queue.specs.Queue.{slot_says, slot_first, slot_of, end_first, Said, said, slots_laid, laid, Whole, totals_of}
+use Rattle.queue.specs.Queue.{Sums, slot_says, slot_first, slot_of, end_first, Said, said, slots_laid, laid, Whole, totals_of}
 use Rattle.queue.specs.Lines.{slot_line, slot_lines, totals_line, last_line, most, printed}
 use Rattle.queue.specs.Steps.{added, takes, step_totals, step_prints, steps_print}
 use Rattle.queue.proofs.Adding.{totals-added}
@@ -38,7 +37,7 @@ said_slot more input e = rw e
 
 -- ---- what is printed, a step at a time
 
-module _ (more : ℕ) (t : Totals) (input : List ℕ) where
+module _ (more : ℕ) (t : Sums) (input : List ℕ) where
   -- a step reads enough
   pub step-whole : steps_print (suc more) t input
       ≡ step_prints t input ++ cond (takes t input) (steps_print more (step_totals t input) (drop (length (piece t input)) input)) []

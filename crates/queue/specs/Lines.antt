@@ -4,8 +4,7 @@ use Prim.Native.String.{String}
 use Rattle.report.specs.Text.{text, decimal, labelled}
 use Rattle.queue.specs.declared.slots.SlotAnswer.{SlotAnswer}
 use Rattle.queue.specs.declared.slots.SlotAnswer.TheVariants.{Met, Unmet, Refused}
-use Rattle.queue.specs.declared.totals.Totals.{Totals}
-use Rattle.queue.specs.Queue.{said, totals_of}
+use Rattle.queue.specs.Queue.{Sums, said, totals_of}
 
 -- a word and a number end a line
 abbrev pub ending : String → ℕ → List ℕ
@@ -23,13 +22,13 @@ slot_lines n [] = []
 slot_lines n (a ∷ rest) = slot_line n a ++ slot_lines (suc n) rest
 
 -- `sheets 2 met 1 unmet 1 refused 0 survivors 16`
-unfoldable pub totals_line : Totals → List ℕ
+unfoldable pub totals_line : Sums → List ℕ
 totals_line t =
     labelled "sheets " t.sheets ++ labelled " met " t.met ++ labelled " unmet " t.unmet ++ labelled " refused " t.refused
     ++ ending " survivors " t.survivors
 
 -- "The last line gives exact totals"; 15 is "printed as the line `refused 15` in place of the totals"
-unfoldable pub last_line : Bool → Totals → List ℕ
+unfoldable pub last_line : Bool → Sums → List ℕ
 last_line ended t = cond ended (totals_line t) (text "refused 15\n")
 
 -- "a 4,097th slot" is refused

@@ -6,7 +6,6 @@ use Rattle.syntax.specs.Answers.{limit}
 use Rattle.domino.specs.Answers.{judge_says}
 use Rattle.queue.specs.declared.slots.SlotAnswer.{SlotAnswer}
 use Rattle.queue.specs.declared.slots.SlotAnswer.TheVariants.{Met, Unmet, Refused}
-use Rattle.queue.specs.declared.totals.Totals.{Totals}
 
 -- what judge says, as a slot's line has it: two numbers are a refusal's and its place; of five the fourth is the survivor count
 -- and the fifth 1 for met
@@ -87,6 +86,13 @@ Fit sheets = All (λ sheet. length sheet ≤ 765) sheets
 
 -- ---- "exact totals, sheets counting every slot, survivors summed"
 
+pub record Sums : Type 0 where
+  pub sheets : ℕ
+  pub met : ℕ
+  pub unmet : ℕ
+  pub refused : ℕ
+  pub survivors : ℕ
+
 unfoldable pub met_in : SlotAnswer → ℕ
 met_in (Met s) = 1
 met_in (Unmet s) = 0
@@ -111,7 +117,7 @@ unfoldable pub sum : (SlotAnswer → ℕ) → List SlotAnswer → ℕ
 sum f [] = 0
 sum f (a ∷ rest) = f a + sum f rest
 
-unfoldable pub totals_of : List SlotAnswer → Totals
+unfoldable pub totals_of : List SlotAnswer → Sums
 totals_of answers =
     record {
       sheets = length answers;

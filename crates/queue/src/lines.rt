@@ -1,54 +1,66 @@
-// The lines that the program prints, put into a lent buffer.
-ghost use Rattle.std.specs.Prelude.{◌++◌, ◌+◌, ◌≤◌, length};
-ghost use Rattle.report.specs.Text.{text, decimal, Puts};
-ghost use Rattle.queue.specs.Lines.{slot_line, totals_line, last_line};
+// The lines that the program prints.
+ghost use Rattle.std.specs.Prelude.{◌≡◌, ◌++◌, ◌+◌, ◌≤◌, length, IfSome, IfNone};
+ghost use Rattle.arrayvec.specs.ArrayVec.{array_vec_len};
+ghost use Rattle.report.specs.Text.{text, decimal};
+ghost use Rattle.queue.specs.Lines.{slot_line, totals_line};
 
 use crate::slots::SlotAnswer;
 use crate::totals::Totals;
+use arrayvec::ArrayVec;
+use refusals::Reason;
 use report::{put_labelled, put_number, put_text};
 
-// A word and a number, which end a line.
-fn put_value(out: &mut [u8], at: usize, word: &[u8], n: u64) -> usize
-    requires { at + length word.now + 21 ≤ length out.old }
-    ensures { Puts (word.now ++ decimal n ++ text "\n") at out.old out.new result }
+// No line is longer, whatever its numbers.
+pub type Line = ArrayVec<u8, 160>;
+
+// Puts a word and a number, which end a line.
+fn put_value(line: &mut Line, word: &[u8], n: u64)
+    requires { array_vec_len line.old + length word.now + 21 ≤ 160 }
+    ensures { line.new.items ≡ line.old.items ++ (word.now ++ decimal n ++ text "\n") }
 {
-    let next = put_labelled(out, at, word, n);
-    put_text(out, next, b"\n")
+    put_labelled(line, word, n);
+    put_text(line, b"\n");
 }
 
 // The line of a slot.
-pub(crate) fn put_slot(out: &mut [u8], number: u64, answer: SlotAnswer) -> usize
-    requires { 160 ≤ length out.old }
-    ensures { Puts (slot_line number answer) 0 out.old out.new result }
+pub(crate) fn slot_line(number: u64, answer: SlotAnswer) -> Line
+    ensures { result.items ≡ slot_line number answer }
 {
-    let next = put_number(out, 0, number);
+    let mut line = Line::new();
+    put_number(&mut line, number);
     match answer {
-        SlotAnswer::Met(s) => put_value(out, next, b" met ", s),
-        SlotAnswer::Unmet(s) => put_value(out, next, b" unmet ", s),
-        SlotAnswer::Refused(n) => put_value(out, next, b" refused ", n),
+        SlotAnswer::Met(s) => put_value(&mut line, b" met ", s),
+        SlotAnswer::Unmet(s) => put_value(&mut line, b" unmet ", s),
+        SlotAnswer::Refused(n) => put_value(&mut line, b" refused ", n as u64),
     }
+    line
 }
 
 // The line of the totals.
-fn put_totals(out: &mut [u8], t: Totals) -> usize
-    requires { 160 ≤ length out.old }
-    ensures { Puts (totals_line t) 0 out.old out.new result }
+#[tactic(auto, unfolding(report::specs::Text::text, crate::specs::Lines::totals_line))]
+fn totals_line(t: Totals) -> Line
+    ensures { result.items ≡ totals_line t }
 {
-    let first = put_labelled(out, 0, b"sheets ", t.sheets);
-    let second = put_labelled(out, first, b" met ", t.met);
-    let third = put_labelled(out, second, b" unmet ", t.unmet);
-    let fourth = put_labelled(out, third, b" refused ", t.refused);
-    put_value(out, fourth, b" survivors ", t.survivors)
+    let mut line = Line::new();
+    put_labelled(&mut line, b"sheets ", t.sheets);
+    put_labelled(&mut line, b" met ", t.met);
+    put_labelled(&mut line, b" unmet ", t.unmet);
+    put_labelled(&mut line, b" refused ", t.refused);
+    put_value(&mut line, b" survivors ", t.survivors);
+    line
 }
 
 // The last line: the totals of a queue that ended as it should, else refusal 15.
-pub(crate) fn put_last(out: &mut [u8], ended: bool, t: Totals) -> usize
-    requires { 160 ≤ length out.old }
-    ensures { Puts (last_line ended t) 0 out.old out.new result }
+pub(crate) fn last_line(ended: Option<Totals>) -> Line
+    ensures totals { IfSome ended (λ t. result.items ≡ totals_line t) }
+    ensures cut_off { IfNone ended (result.items ≡ text "refused 15\n") }
 {
-    if ended {
-        put_totals(out, t)
-    } else {
-        put_text(out, 0, b"refused 15\n")
+    match ended {
+        Some(t) => totals_line(t),
+        None => {
+            let mut line = Line::new();
+            put_value(&mut line, b"refused ", Reason::QueueCutOff.number() as u64);
+            line
+        }
     }
 }

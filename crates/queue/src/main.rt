@@ -2,13 +2,13 @@
 // totals.
 #![tactic(auto)]
 
-ghost use Rattle.std.specs.Prelude.{◌≡◌, ◌≤◌, length};
-ghost use Rattle.console.specs.Input.{Within};
-ghost use Rattle.queue.specs.Steps.{Reached, ReadsStep, Takes, Turns, Served};
+ghost use Rattle.queue.specs.Steps.{ReadsStep, bytes_read, Takes, Turns, Served};
 
+use crate::lines::Line;
 use crate::steps::{Stepped, step, wanted};
-use crate::totals::{Totals, none};
-use console::{Input, Printed, complain, read_all};
+use crate::totals::Totals;
+use console::{Printed, complain, read_all};
+use std::io;
 use std::io::{Read, Stderr, Stdout};
 
 mod lines;
@@ -18,61 +18,45 @@ mod totals;
 
 #[derive(Drop)]
 pub struct Turned {
-    pub totals: Totals,
-    // Is there more to come?
-    pub going: bool,
-    pub printed: Printed,
+    // The totals that follow, if there is more to come.
+    pub next: Option<Totals>,
+    pub printed: Printed<160>,
 }
 
-// Reads what the next step wants behind its kind. The count is bounded; which bytes are read no contract can say, and process
-// tests alone hold it, here and in `read_step`.
-fn read_rest<R: Read>(from: &mut R, buffer: &mut [u8], sheets: u64) -> Input
-    requires { length buffer.old ≡ 768 }
-    ensures { ReadsStep sheets result buffer.new }
+// Reads what the next step wants into the buffer, a kind and then what stands behind it. Their count is bounded; which bytes are
+// read no contract can say, and process tests alone hold it.
+fn read_step<'a, R: Read>(
+    from: &mut R,
+    buffer: &'a mut [u8; 768],
+    sheets: u64,
+) -> io::Result<&'a [u8]>
+    ensures { ReadsStep sheets result }
 {
+    let first = read_all(from, &mut buffer[..1])?;
+    if first == 0 {
+        return Ok(&buffer[..0]);
+    }
     let all = wanted(sheets, buffer[0]);
-    let rest = read_all(from, &mut buffer[1..all]);
-    match rest {
-        Input::Failed => Input::Failed,
-        Input::Got(m) => Input::Got(1 + m),
-    }
+    let rest = read_all(from, &mut buffer[1..all])?;
+    Ok(&buffer[..1 + rest])
 }
 
-// Reads what the next step wants.
-fn read_step<R: Read>(from: &mut R, buffer: &mut [u8], sheets: u64) -> Input
-    requires { length buffer.old ≡ 768 }
-    ensures { ReadsStep sheets result buffer.new }
-{
-    let first = read_all(from, &mut buffer[..1]);
-    match first {
-        Input::Failed => Input::Failed,
-        Input::Got(n) => {
-            if n == 0 {
-                return Input::Got(0);
-            }
-            read_rest(from, buffer, sheets)
-        }
-    }
-}
-
-// Takes the step of what was read and puts its line at the front of the buffer; neither where a read failed.
-fn take_step(t: Totals, input: Input, buffer: &[u8], set: &mut [u64], out: &mut [u8]) -> Stepped
-    requires { Reached t × Within input buffer.now × (length set.old ≡ 4096) × (160 ≤ length out.old) }
-    ensures { Takes t input buffer.now set.old set.new out.old out.new result }
+// Takes the step of what was read; nothing follows a read that failed, and it has no line.
+fn take_step(t: Totals, input: io::Result<&[u8]>, set: &mut [u64; 4096]) -> Stepped
+    ensures { Takes t (bytes_read input.entry) set.old set.new result }
 {
     match input {
-        Input::Failed => Stepped {
-            totals: t,
-            written: 0,
-            going: false,
+        Ok(bytes) => step(t, bytes, set),
+        Err(_) => Stepped {
+            next: None,
+            line: Line::new(),
         },
-        Input::Got(n) => step(t, &buffer[..n], set, out),
     }
 }
 
 // Tells what the system refused.
-fn tell(stderr: &Stderr, input: Input, whole: bool) {
-    if let Input::Failed = input {
+fn tell(stderr: &Stderr, input: io::Result<&[u8]>, whole: bool) {
+    if input.is_err() {
         complain(stderr, b"queue: standard input cannot be read\n");
     }
     if !whole {
@@ -80,29 +64,24 @@ fn tell(stderr: &Stderr, input: Input, whole: bool) {
     }
 }
 
-// Takes the step of what was read and prints its line.
+// Takes the step of what was read and prints its line; nothing follows a line that is not written whole.
 fn turn(
     stdout: &Stdout,
     stderr: &Stderr,
     t: Totals,
-    input: Input,
-    buffer: &[u8],
-    set: &mut [u64],
+    input: io::Result<&[u8]>,
+    set: &mut [u64; 4096],
 ) -> Turned
-    requires { Reached t × Within input buffer.now × (length set.old ≡ 4096) }
-    ensures { Turns t input buffer.now set.old set.new result }
+    ensures { Turns t (bytes_read input.entry) set.old set.new result }
 {
-    let mut out = [0u8; 160];
-    let s = take_step(t, input, buffer, set, &mut out);
-    let k = s.written;
-    let totals = s.totals;
-    let printed = console::print(stdout, out, k);
+    let stepped = take_step(t, input, set);
+    let next = stepped.next;
+    let printed = console::print(stdout, stepped.line);
     let whole = printed.whole;
     tell(stderr, input, whole);
     Turned {
-        totals: totals,
-        going: s.going && whole,
-        printed: printed,
+        next: if whole { next } else { None },
+        printed,
     }
 }
 
@@ -112,20 +91,19 @@ fn serve<R: Read>(
     from: &mut R,
     stdout: &Stdout,
     stderr: &Stderr,
-    buffer: &mut [u8],
-    set: &mut [u64],
+    buffer: &mut [u8; 768],
+    set: &mut [u64; 4096],
 ) -> Turned
-    requires { (length buffer.old ≡ 768) × (length set.old ≡ 4096) }
     ensures { Served result }
 {
-    let mut t = none();
+    let mut t = Totals::default();
     loop {
         let input = read_step(from, buffer, t.sheets);
-        let next = turn(stdout, stderr, t, input, buffer, set);
-        if !next.going {
-            return next;
-        }
-        t = next.totals;
+        let turned = turn(stdout, stderr, t, input, set);
+        let Some(next) = turned.next else {
+            return turned;
+        };
+        t = next;
     }
 }
 

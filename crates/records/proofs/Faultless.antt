@@ -7,9 +7,9 @@ use mathlib.Core.List.{List, [], ◌∷◌}
 use lib.ListN.{length}
 use lib.Dec.{eqb, leb, ltb}
 use borrow.Author.Tests.{eqb-true, eqb-false, leb-false, ltb-true, ltb-false}
-use Rattle.records.specs.declared.Shape.{Shape}
-use Rattle.records.specs.declared.Entry.{Entry}
-use Rattle.records.specs.declared.Fault.{Fault}
+use Rattle.records.specs.Shapes.{Shape}
+use Rattle.records.specs.Entries.{Entry}
+use Rattle.records.specs.Scan.{Fault}
 use Rattle.records.specs.Scan.{State, record_at_lem, fault_at_lem, first_of, fault_place, or_else, number_fault_lem, sort_fault_lem, again_fault_lem, reference_fault_lem, name, empty_fault_lem, body_fault, body_byte_lem, shape_at, record_fault, record_after, refused, whole, scan}
 
 -- no fault of two; of several; of a body's four

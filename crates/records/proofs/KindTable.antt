@@ -5,9 +5,9 @@ use mathlib.Core.Bool.{Bool, true, false, cond, ◌&&◌, ◌||◌}
 use mathlib.Core.List.{List, [], ◌∷◌}
 use lib.Dec.{T, eqb, leb, ltb, eqb→eq, leb→le}
 use native.Mathlib.Omega.{arith}
-use borrow.Author.Tests.{eqb-true, eqb-false, leb-true, ltb-true, ltb-false}
-use Rattle.records.specs.declared.Shape.{Shape}
-use Rattle.records.specs.declared.Entry.{Entry}
+use borrow.Author.Tests.{eqb-true, eqb-false, leb-true}
+use Rattle.records.specs.Shapes.{Shape}
+use Rattle.records.specs.Entries.{Entry}
 use Rattle.records.specs.Shapes.{Row, rows, rowed, unknown, within, shaped, shape_of, is_leaf_lem}
 use Rattle.records.specs.Scan.{vacuous_of_lem}
 
@@ -62,9 +62,6 @@ bounds k =
       two = λ n. omega (arith, n, leb→le (shape_of k).second (2 * ((shape_of k).body - 1)) (shape_rule (λ s. leb s.second (2 * (s.body - 1))) tt k));
     }
 
-pub sort_low : (k : ℕ) {s : Shape} → s ≡ shape_of k → s.sort < 4
-sort_low k e = rw e (omega (arith, (bounds k).sort))
-
 -- a shape that antt computes at each of n kinds, from lo on
 abbrev pub same : Shape → Shape → Bool
 same s t = eqb s.sort t.sort && (eqb s.body t.body && (eqb s.limit t.limit && (eqb s.first t.first && eqb s.second t.second)))
@@ -98,14 +95,6 @@ shape_at s lo (suc n) k t h l =
     go : (b : Bool) → eqb k lo ≡ b → ((k ≡ lo → ⊥) → s ≡ shape_of k) → s ≡ shape_of k
     go true q f = rw (eqb-true k lo q) (same_is s (shape_of lo) (left (same s (shape_of lo)) (shapes s (suc lo) n) t))
     go false q f = f (eqb-false k lo q)
-
--- the same before a kind and after it
-pub shape_but : (s : Shape) (lo c n k : ℕ) → T (shapes s lo (c - lo)) → T (shapes s (suc c) n) → lo ≤ k → k < suc c + n → (k ≡ c → ⊥) → s ≡ shape_of k
-shape_but s lo c n k t u h l z = go (ltb k c) refl
-  where
-    go : (b : Bool) → ltb k c ≡ b → s ≡ shape_of k
-    go true q = let e : k < c = ltb-true k c q in shape_at s lo (c - lo) k t h (omega arith)
-    go false q = let e : c ≤ k = ltb-false k c q in shape_at s (suc c) n k u (omega arith) l
 
 -- a kind is c or another
 try : (P : ℕ → Type 0) (k c : ℕ) → P c → (eqb k c ≡ false → P k) → P k

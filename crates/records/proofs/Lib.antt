@@ -6,3 +6,4 @@ pub mod Namings
 pub mod Places
 pub mod Prefix
 pub mod Scanning
+pub mod Telling

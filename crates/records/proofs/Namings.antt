@@ -5,42 +5,23 @@ use native.Mathlib.Decide.{ℕ_discrete}
 use mathlib.Core.Path.{◌≡◌, refl, sym, ap, ◌∙◌}
 use mathlib.Core.Logic.{◌⊎◌, inl, inr, ⊎_elim, ◌↔◌}
 use mathlib.Core.Bool.{Bool, true, false, cond}
-use mathlib.Core.List.{List, [], ◌∷◌, ◌++◌, map}
-use lib.ListN.{length, get_or, set, length-set, length-append, get_or-map, get_or-append}
-use lib.Seq.{get_or_at, get_or-set_same, get_or-set_other, map-set_same}
+use mathlib.Core.List.{List, [], ◌∷◌, ◌++◌}
+use lib.ListN.{length, get_or, length-append, get_or-append}
+use lib.Seq.{get_or_at, get_or-set_same, get_or-set_other}
 use lib.Dec.{eqb, leb}
 use borrow.Author.Tests.{ne_eqb, le-leb, leb-true, leb-false}
-use Rattle.records.specs.declared.Shape.{Shape}
-use Rattle.records.specs.declared.Entry.{Entry}
+use Rattle.records.specs.Shapes.{Shape}
+use Rattle.records.specs.Entries.{Entry}
 use Rattle.records.specs.Shapes.{is_leaf_lem}
 use Rattle.records.specs.Scan.{State, start, blank, record_at_lem, naming, name, entry_for, reference_fault_lem, after, shape_at, record_fault, record_after, whole, scan_sheet}
 use Rattle.records.specs.Places.{start_of, KnownBefore, Start, wanted_at, Reference, wanted_by, named_shape, NamedBefore, NamedRightly}
 use Rattle.records.proofs.KindTable.{Bounds, bounds}
-use Rattle.records.proofs.Faults.{name-none}
+use Rattle.records.proofs.Faults.{name-none, name-keeps, name-long}
 use Rattle.records.proofs.Faultless.{none_of_body, reference-right, body_at, record_right, scan-keeps}
 
 -- ---- naming a record
 
--- it changes nothing else
-name-keeps : {B : Type 0} (f : Entry → B) → ((e : Entry) → f (naming e) ≡ f e) → (es : List Entry) (wanted r i : ℕ) →
-    f (record_at_lem (name es wanted r) i) ≡ f (record_at_lem es i)
-unfolding name
-name-keeps f k es wanted r i =
-    sym (get_or-map f (name es wanted r) i blank) ∙ ap (λ (l : List _). get_or l i (f blank)) (go (eqb wanted 0)) ∙ get_or-map f es i blank
-  where
-    go : (b : Bool) → map f (cond b es (set es r (naming (record_at_lem es r)))) ≡ map f es
-    go true = refl
-    go false = map-set_same f es r (naming (record_at_lem es r)) blank (k (record_at_lem es r))
-
 module _ (es : List Entry) (wanted r : ℕ) where
-  name-long : length (name es wanted r) ≡ length es
-  unfolding name
-  name-long = go (eqb wanted 0)
-    where
-      go : (b : Bool) → length (cond b es (set es r (naming (record_at_lem es r)))) ≡ length es
-      go true = refl
-      go false = length-set es r (naming (record_at_lem es r))
-
   name_sort : (i : ℕ) → (record_at_lem (name es wanted r) i).sort ≡ (record_at_lem es i).sort
   name_sort i = name-keeps (λ e. e.sort) (λ e. refl) es wanted r i
 

@@ -8,9 +8,9 @@ use mathlib.Core.List.{List}
 use lib.ListN.{length, get_or}
 use lib.Dec.{eqb, leb, ltb}
 use borrow.Author.Tests.{eqb-true, eqb-false, eq-eqb, leb-true, leb-false, le-leb, ltb-true, ltb-false}
-use Rattle.records.specs.declared.Shape.{Shape}
-use Rattle.records.specs.declared.Entry.{Entry}
-use Rattle.records.specs.declared.Fault.{Fault}
+use Rattle.records.specs.Shapes.{Shape}
+use Rattle.records.specs.Entries.{Entry}
+use Rattle.records.specs.Scan.{Fault}
 use Rattle.records.specs.Shapes.{within, is_restriction_lem}
 use Rattle.records.specs.Scan.{State, start, record_at_lem, fault_at_lem, or_else, number_fault_lem, sort_fault_lem, again_fault_lem, reference_fault_lem, name, empty_fault_lem, body_fault, shape_at, record_fault, record_after, refused, whole, scan, scan_sheet}
 use Rattle.records.specs.Places.{start_of, Start, wanted_at, Reference, wanted_by, named_shape, Misnames, is_record_fault, is_reference_fault, Placed}

@@ -3,44 +3,35 @@ use Prim.Native.Nat.{ℕ, zero, suc, ◌+◌, ◌-◌, ◌≤◌, ◌<◌}
 use mathlib.Core.Path.{◌≡◌, refl, sym, ap, ◌∙◌}
 use mathlib.Core.Bool.{Bool, true, false, cond}
 use mathlib.Core.List.{List, [], ◌∷◌, ◌++◌}
-use lib.ListN.{length, get_or}
-use lib.Dec.{eqb}
+use lib.ListN.{length, get_or, length-append}
+use lib.Dec.{leb}
 use native.Mathlib.Omega.{arith}
-use borrow.Author.Tests.{eq-eqb, ne_eqb, eqb-true, eqb-false, lt-ltb, le-ltb}
-use Rattle.records.specs.declared.Entry.{Entry}
-use Rattle.records.specs.declared.Shape.{Shape}
-use Rattle.records.specs.declared.Fault.{Fault}
-use Rattle.records.specs.declared.Progress.{Progress}
-use Rattle.records.specs.declared.Stepped.TheVariants.{Faulty, Next}
-use Rattle.records.specs.declared.Scanned.TheVariants.{Refused, Whole}
+use borrow.Author.Tests.{ne_eqb, lt-ltb, le-ltb}
+use Rattle.std.specs.Prelude.{Some, Ok}
+use Rattle.refusals.specs.Numbers.{number}
+use Rattle.refusals.specs.declared.Reason.TheVariants.{UnknownKind, BodyCutOff, TooManyRecords}
+use Rattle.refusals.specs.declared.Refusal.{Refusal}
+use Rattle.records.specs.Entries.{Entry}
+use Rattle.records.specs.Shapes.{Shape}
 use Rattle.records.specs.Shapes.{shape_of, is_leaf_lem}
-use Rattle.records.specs.Scan.{State, fault_at_lem, refused, whole, name, vacuous_of_lem, names_after_lem, roles_after_lem, body_fault, record_fault, record_after, after, body_byte_lem, shape_at, scan, scan_sheet}
-use Rattle.records.specs.RecordTable.{seen, state_of, first_test, fault_of_lem, told_fault, Body, Appended, faulty, next, step_at, Steps, Scans}
-use Rattle.records.proofs.Entries.{seen_none}
-use Rattle.records.proofs.Faults.{fault_own, body_told}
-use Rattle.records.proofs.KindTable.{bounds}
+use Rattle.records.specs.Scan.{Fault, State, refused, whole, name, vacuous_of_lem, names_after_lem, roles_after_lem, body_fault, record_fault, record_after, after, body_byte_lem, scan, scan_sheet}
+use Rattle.records.specs.Nodes.{node_kind, node_first, node_second, entry_of, byte_of, NodeOf}
+use Rattle.records.specs.RecordTable.{state_of, Refuses, both_named, Scans}
+use Rattle.records.specs.declared.Progress.{Progress}
+use Rattle.records.specs.declared.nodes.Node.{Node}
+use Rattle.records.proofs.Faults.{number-some, name-long, unknown-kind, cut_off, of_body}
+use Rattle.records.proofs.Telling.{vacuous-same, both-vacuous}
 
--- a step by its fault
-pub step-fault : (sheet t u : List ℕ) (p : Progress) (c : ℕ) → told_fault sheet (state_of u p) c ≡ record_fault sheet (state_of t p) →
-    ((record_fault sheet (state_of t p)).number ≡ 0 → ⊥) → Steps sheet t p u (Faulty c)
-unfolding step_at
-step-fault sheet t u p c e n = record { result = simp (e, ne_eqb _ _ n); count = tt }
+pub both-long : (es : List Entry) (w x a b : ℕ) → length (name (name es w a) x b) ≡ length es
+both-long es w x a b = name-long (name es w a) x b ∙ name-long es w a
 
--- an unknown kind, or a body cut off
-pub step-whole : (sheet t u : List ℕ) (p : Progress) (c : ℕ) → suc c < first_test → fault_at_lem 0 (suc c) ≡ record_fault sheet (state_of t p) →
-    Steps sheet t p u (Faulty (suc c))
-step-whole sheet t u p c h q =
-    step-fault sheet t u p (suc c) (fault_own _ _ _ _ (suc c) h ∙ q) (λ z. omega (arith, ap (λ (x : Fault). x.number) q))
-
--- a body that fails a test
-pub step-body : (sheet t u : List ℕ) (p : Progress) (s : Shape) (a b c : ℕ) → s ≡ shape_at sheet p.at →
-    body_fault (seen t p.count) s a b ≡ record_fault sheet (state_of t p) → a ≡ body_byte_lem sheet p.at s 1 → b ≡ body_byte_lem sheet p.at s 2 →
-    Body t p.count s a b u c → (c ≡ 0 → ⊥) → Steps sheet t p u (Faulty c)
-step-body sheet t u p s a b c ps pf pa pb o z =
-    step-fault sheet t u p c (told ∙ o.fault ∙ pf) (λ e. o.some z (ap (λ (x : Fault). x.number) pf ∙ e))
+-- a body's byte is 0 where the shape has none
+byte-same : (sheet : List ℕ) (at : ℕ) (s : Shape) (i : ℕ) → byte_of s i (body_byte_lem sheet at s i) ≡ body_byte_lem sheet at s i
+byte-same sheet at s i = go (leb i s.body)
   where
-    told : told_fault sheet (state_of u p) c ≡ fault_of_lem (seen u p.count) s a b c
-    told = rw (pa, pb, ps) (body_told (seen u p.count) sheet p.at (shape_at sheet p.at) c (bounds (get_or sheet p.at 0)))
+    go : (b : Bool) → cond b (cond b (get_or sheet (at + i) 0) 0) 0 ≡ cond b (get_or sheet (at + i) 0) 0
+    go true = refl
+    go false = refl
 
 abbrev entered : ℕ → ℕ → ℕ → Bool → ℕ → Bool → Entry
 entered k a b v s l = record { kind = k; first = a; second = b; named = false; vacuous = v; sort = s; leaf = l }
@@ -53,53 +44,45 @@ after_is : (st : State) (k a b at names roles : ℕ) (s : Shape) (v l : Bool) (r
 unfolding after
 after_is st k a b at names roles s v l rs ps pv pf pn pl pr pa = rw (pa, pr, pv, pf, pn, pl, ps)
 
--- a record of kind k without fault: from the table t to u by its body, from u to w by itself
-pub step-next : (sheet t u w : List ℕ) (p q : Progress) (k : ℕ) (s : Shape) (a b c : ℕ) (v l : Bool) → k ≡ get_or sheet p.at 0 → s ≡ shape_of k →
-    body_fault (seen t p.count) s a b ≡ record_fault sheet (state_of t p) → c ≡ 0 → a ≡ body_byte_lem sheet p.at s 1 → b ≡ body_byte_lem sheet p.at s 2 →
-    v ≡ vacuous_of_lem (seen t p.count) k a b → l ≡ is_leaf_lem s → Body t p.count s a b u c → Appended u p (entered k a b v s.sort l) s.body w q →
-    Steps sheet t p w (Next q)
-unfolding step_at record_after
-step-next sheet t u w p q k s a b c v l pk ps pf z pa pb pv pl o h =
-    record { result = simp (eq-eqb (record_fault sheet (state_of t p)).number 0 none) (ap next after_that); count = h.count }
-  where
-    none : (record_fault sheet (state_of t p)).number ≡ 0
-    none =
-        let e : fault_at_lem 0 c ≡ body_fault (seen t p.count) s a b = sym (fault_own (seen u p.count) s a b c (omega arith)) ∙ o.fault in
-        ap (λ (x : Fault). x.number) (sym pf ∙ sym e) ∙ z
+-- the record of kind k and shape s that starts where reading has come to
+module _ (sheet : List ℕ) (es : List Entry) (p : Progress) (k : ℕ) (s : Shape) (pk : k ≡ get_or sheet p.at 0) (ps : s ≡ shape_of k) where
+  -- an unknown kind, or a body cut off
+  pub step-unknown : (r : Refusal) → s.sort ≡ 0 → r.reason ≡ UnknownKind → r.place ≡ p.at → Refuses p.at (record_fault sheet (state_of es p)) r
+  step-unknown r z n l = rw (← unknown-kind sheet (state_of es p) s (ps ∙ ap shape_of pk) z) (ap number n, omega arith)
 
-    rs : seen w q.count ≡ name (name (seen t p.count) s.first a) s.second b ++ (entered k a b v s.sort l ∷ [])
-    rs = h.records ∙ ap (λ (x : List Entry). x ++ (entered k a b v s.sort l ∷ [])) (o.records z)
+  pub step-cut : (r : Refusal) → (s.sort ≡ 0 → ⊥) → length sheet - (p.at + 1) < s.body → r.reason ≡ BodyCutOff → r.place ≡ p.at →
+      Refuses p.at (record_fault sheet (state_of es p)) r
+  step-cut r z h n l = rw (← cut_off sheet (state_of es p) s (ps ∙ ap shape_of pk) z h) (ap number n, omega arith)
 
-    after_that : state_of w q ≡ record_after sheet (state_of t p)
-    after_that = after_is (state_of t p) k a b _ _ _ s v l _ ps pv pl h.names h.roles rs h.at ∙ rw (pa, pb, ps, pk)
+  -- a body a, b that is there
+  module _ (z : s.sort ≡ 0 → ⊥) (h : s.body ≤ length sheet - (p.at + 1)) (a b : ℕ) (pa : a ≡ body_byte_lem sheet p.at s 1)
+      (pb : b ≡ body_byte_lem sheet p.at s 2) where
+    fault-is : body_fault es s a b ≡ record_fault sheet (state_of es p)
+    fault-is = of_body sheet (state_of es p) s (ps ∙ ap shape_of pk) z h a b _ pa pb refl
 
--- what a step says of the record: its fault, or none and the state after it
-pub record Stepped-next (sheet t u : List ℕ) (p q : Progress) : Type 0 where
-  pub fault : 0 ≡ (record_fault sheet (state_of t p)).number
-  pub state : state_of u q ≡ record_after sheet (state_of t p)
+    pub step-body : (r : Refusal) → Refuses p.at (body_fault es s a b) r → Refuses p.at (record_fault sheet (state_of es p)) r
+    step-body r t = rw (← fault-is) t
 
-pub faulty-is : (sheet t u : List ℕ) (p : Progress) (c : ℕ) → Steps sheet t p u (Faulty c) →
-    (told_fault sheet (state_of u p) c ≡ record_fault sheet (state_of t p)) × ((told_fault sheet (state_of u p) c).number ≡ 0 → ⊥)
-unfolding step_at
-faulty-is sheet t u p c h = go (told_fault sheet (state_of u p) c) (record_fault sheet (state_of t p)) (eqb (record_fault sheet (state_of t p)).number 0) refl h.result
-  where
-    go : (f g : Fault) (b : Bool) → eqb g.number 0 ≡ b → faulty f ≡ cond b (next (record_after sheet (state_of t p))) (faulty g) →
-        (f ≡ g) × (f.number ≡ 0 → ⊥)
-    go f g true q e = let z : ◌≡◌ {A = ℕ} 0 1 = cc in absurd (omega arith)
-    go f g false q e = let i : f ≡ g = cc in (i, λ z. eqb-false g.number 0 q (rw i at z))
+    pub step-none : (body_fault es s a b).number ≡ 0 → (record_fault sheet (state_of es p)).number ≡ 0
+    step-none t = rw (← fault-is) t
 
-pub next-is : (sheet t u : List ℕ) (p q : Progress) → Steps sheet t p u (Next q) → Stepped-next sheet t u p q
-unfolding step_at
-next-is sheet t u p q h = go (eqb (record_fault sheet (state_of t p)).number 0) refl h.result
-  where
-    go : (b : Bool) → eqb (record_fault sheet (state_of t p)).number 0 ≡ b →
-        next (state_of u q) ≡ cond b (next (record_after sheet (state_of t p))) (faulty (record_fault sheet (state_of t p))) → Stepped-next sheet t u p q
-    go true z e = record { fault = sym (eqb-true (record_fault sheet (state_of t p)).number 0 z); state = cc }
-    go false z e = let z : ◌≡◌ {A = ℕ} 0 1 = cc in absurd (omega arith)
+    -- the record of node n, with the records u that it names noted as named
+    pub step-next : (n : Node) (v : Bool) (u w : List Entry) (q : Progress) → NodeOf k a b (Some n) → u ≡ both_named es s a b →
+        v ≡ vacuous_of_lem u (node_kind n) (node_first n) (node_second n) → w ≡ u ++ (entry_of (record { node = n; named = false; vacuous = v }) ∷ []) →
+        q.at ≡ p.at + 1 + s.body → q.names ≡ names_after_lem p.names (node_kind n) (node_first n) →
+        q.roles ≡ roles_after_lem p.roles (node_kind n) (node_first n) → state_of w q ≡ record_after sheet (state_of es p)
+    unfolding record_after entry_of
+    step-next n v u w q pn pu pv pw at names roles =
+        after_is (state_of es p) k a b q.at q.names q.roles s v (is_leaf_lem s) w ps
+        (pv ∙ rw (pu, pn.0, f, g) (vacuous-same es (both_named es s a b) k a b (both-vacuous es _ _ a b)))
+        refl (rw (pn.0, f) at names) (rw (pn.0, f) at roles) (pw ∙ rw (pu, pn.0, f, g, ← ps)) at
+        ∙ rw (pa, pb, ps, pk)
+      where
+        f : node_first n ≡ a
+        f = pn.1 ∙ rw (pa, ← ps) (byte-same sheet p.at s 1)
 
-pub later : (sheet t u : List ℕ) (p q : Progress) → Steps sheet t p u (Next q) → p.at < q.at
-unfolding record_after after
-later sheet t u p q h = omega (arith, ap (λ (x : State). x.at) (next-is sheet t u p q h).state)
+        g : node_second n ≡ b
+        g = pn.2 ∙ rw (pb, ← ps) (byte-same sheet p.at s 2)
 
 module _ (sheet : List ℕ) (st : State) where
   scan_end : (room : ℕ) → length sheet ≤ st.at → scan room sheet st ≡ whole st
@@ -120,43 +103,52 @@ module _ (sheet : List ℕ) (st : State) where
   unfolding scan
   scan-next room h p = simp (lt-ltb _ _ h, ← p)
 
--- the loop's invariant: scanning on from the table and the progress gives the whole result
-pub record Running (sheet table : List ℕ) (p : Progress) : Type 0 where
-  pub count : p.count ≤ 255
-  pub result : scan (255 - p.count) sheet (state_of table p) ≡ scan_sheet sheet
+pub later : (sheet : List ℕ) (es us : List Entry) (p q : Progress) → state_of us q ≡ record_after sheet (state_of es p) → p.at < q.at
+unfolding record_after after
+later sheet es us p q e = omega (arith, ap (λ (x : State). x.at) e)
 
-pub running_start : (sheet table : List ℕ) → Running sheet table (record { count = 0; at = 0; names = 0; roles = 0 })
+record_more : (sheet : List ℕ) (es us : List Entry) (p q : Progress) → state_of us q ≡ record_after sheet (state_of es p) → length us ≡ length es + 1
+unfolding record_after after
+record_more sheet es us p q e =
+    ap (λ (x : State). length x.records) e ∙ length-append _ _ ∙ ap (λ (n : ℕ). n + 1) (both-long es _ _ _ _)
+
+-- the loop's invariant: scanning on from the records and the progress gives the whole result
+pub record Running (sheet : List ℕ) (es : List Entry) (p : Progress) : Type 0 where
+  pub count : length es ≤ 255
+  pub result : scan (255 - length es) sheet (state_of es p) ≡ scan_sheet sheet
+
+pub running_start : (sheet : List ℕ) (es : List Entry) (p : Progress) → es ≡ [] → p.at ≡ 0 → p.names ≡ 0 → p.roles ≡ 0 → Running sheet es p
 unfolding scan_sheet
-running_start sheet table = record { count = omega arith; result = rw (seen_none table) }
+running_start sheet es p e a n r = rw e (record { count = omega arith; result = rw (a, n, r) })
 
-module _ (sheet table : List ℕ) (p : Progress) (i : Running sheet table p) where
+module _ (sheet : List ℕ) (es : List Entry) (p : Progress) (i : Running sheet es p) where
   -- room for n records more
-  from : (n : ℕ) → 255 - p.count ≡ n → scan n sheet (state_of table p) ≡ scan_sheet sheet
+  from : (n : ℕ) → 255 - length es ≡ n → scan n sheet (state_of es p) ≡ scan_sheet sheet
   from n e = rw e at i.result
 
-  pub running_end : length sheet ≤ p.at → Scans sheet table (Whole p)
-  running_end l = record { result = sym (scan_end sheet (state_of table p) (255 - p.count) l) ∙ i.result; fits = i.count }
+  pub running_end : length sheet ≤ p.at → Scans sheet es (Ok p)
+  running_end l = sym (scan_end sheet (state_of es p) (255 - length es) l) ∙ i.result
 
-  pub running_full : p.at < length sheet → p.count ≡ 255 → Scans sheet table (Refused 3 p.at)
-  running_full l e = record { result = sym (scan-full sheet (state_of table p) l) ∙ from 0 (omega arith); fits = λ z. omega arith }
+  pub running_full : (r : Refusal) → p.at < length sheet → length es ≡ 255 → r.reason ≡ TooManyRecords → r.place ≡ p.at →
+      refused (number r.reason) r.place ≡ scan_sheet sheet
+  running_full r l e n h = rw (n, h) (sym (scan-full sheet (state_of es p) l) ∙ from 0 (omega arith))
 
-  pub running_fault : (after : List ℕ) (c : ℕ) (f : Fault) → Steps sheet table p after (Faulty c) → f ≡ told_fault sheet (state_of after p) c →
-      p.at < length sheet → (p.count ≡ 255 → ⊥) → Scans sheet after (Refused f.number (p.at + f.offset))
-  running_fault after c f k e l n =
-      let w = faulty-is sheet table after p c k in
-      let some : f.number ≡ 0 → ⊥ = λ z. w.1 (ap (λ (x : Fault). x.number) (sym e) ∙ z) in
+  pub running_fault : (r : Refusal) → Refuses p.at (record_fault sheet (state_of es p)) r → p.at < length sheet → (length es ≡ 255 → ⊥) →
+      refused (number r.reason) r.place ≡ scan_sheet sheet
+  running_fault r t l n =
+      rw (t.0, t.1)
+      (sym (scan-fault sheet (state_of es p) (254 - length es) _ l refl (λ z. number-some r.reason (t.0 ∙ z))) ∙ from (suc (254 - length es)) (omega (arith, i.count)))
+
+  pub running_next : (us : List Entry) (q : Progress) → (record_fault sheet (state_of es p)).number ≡ 0 →
+      state_of us q ≡ record_after sheet (state_of es p) → p.at < length sheet → (length es ≡ 255 → ⊥) → Running sheet us q
+  running_next us q z e l n =
       record {
-        result = sym (scan-fault sheet (state_of table p) (254 - p.count) f l (e ∙ w.0) some) ∙ from (suc (254 - p.count)) (omega arith);
-        fits = some;
-      }
-
-  pub running_next : (after : List ℕ) (q : Progress) → Steps sheet table p after (Next q) → p.at < length sheet → (p.count ≡ 255 → ⊥) → Running sheet after q
-  running_next after q k l n =
-      let w = next-is sheet table after p q k in
-      record {
-        count = omega (arith, k.count);
-        result = rw (room, w.state) (sym (scan-next sheet (state_of table p) (254 - p.count) l w.fault) ∙ from (suc (254 - p.count)) (omega arith));
+        count = omega (arith, more, i.count);
+        result = rw (room, e) (sym (scan-next sheet (state_of es p) (254 - length es) l (sym z)) ∙ from (suc (254 - length es)) (omega (arith, i.count)));
       }
     where
-      room : 255 - q.count ≡ 254 - p.count
-      room = omega (arith, k.count)
+      more : length us ≡ length es + 1
+      more = record_more sheet es us p q e
+
+      room : 255 - length us ≡ 254 - length es
+      room = omega (arith, more)

@@ -1,8 +1,8 @@
 -- Where the place of a fault lies: where a record starts, and where a reference stands in it (02, N6); and which records the references
 -- name (01).
 use Rattle.std.specs.Prelude.{ℕ, zero, suc, ◌+◌, ◌-◌, ◌≤◌, ◌<◌, ◌≡◌, ◌⊎◌, ◌↔◌, Bool, true, false, cond, ◌||◌, List, length, get_or, eqb}
-use Rattle.records.specs.declared.Shape.{Shape}
-use Rattle.records.specs.declared.Entry.{Entry}
+use Rattle.records.specs.Shapes.{Shape}
+use Rattle.records.specs.Entries.{Entry}
 use Rattle.records.specs.Shapes.{within, is_leaf_lem}
 use Rattle.records.specs.Scan.{record_at_lem, shape_at}
 

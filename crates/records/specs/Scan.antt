@@ -1,13 +1,11 @@
 -- Reading record by record (01, "Read"): the state is what has been read, and a record is a fault or makes the next state.
 use Rattle.std.specs.Prelude.{ℕ, zero, suc, ◌+◌, ◌-◌, max, Bool, true, false, cond, not, ◌&&◌, ◌||◌, List, [], ◌∷◌, ◌++◌, length, get_or, set, ltb, leb, eqb}
-use Rattle.records.specs.declared.Shape.{Shape}
-use Rattle.records.specs.declared.Entry.{Entry}
-use Rattle.records.specs.declared.Fault.{Fault}
+use Rattle.records.specs.Shapes.{Shape}
+use Rattle.records.specs.Entries.{Entry}
 use Rattle.records.specs.Shapes.{shape_of, is_leaf_lem, is_restriction_lem}
 
 -- what has been read: the byte where the next record starts, the records, and one more than the largest number of a name
--- (01 calls it a trait) and of a role (a link). A record is its kind, its two body bytes (0 where there is none), whether a
--- later record names it, whether it is a role that holds on the empty role set, its sort, and whether it is a leaf.
+-- (01 calls it a trait) and of a role (a link)
 pub record State : Type 0 where
   pub at : ℕ
   pub records : List Entry
@@ -25,6 +23,10 @@ abbrev pub record_at_lem : List Entry → ℕ → Entry
 record_at_lem es r = get_or es r blank
 
 -- a fault: its number (0: none), and how many bytes past the record's start its place is
+pub record Fault : Type 0 where
+  pub number : ℕ
+  pub offset : ℕ
+
 abbrev pub fault_at_lem : ℕ → ℕ → Fault
 fault_at_lem i n = record { number = n; offset = i }
 

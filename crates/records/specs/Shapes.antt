@@ -1,12 +1,18 @@
 -- What a kind byte decides (01, "The sheet's bytes": the kind byte decides the body length and the sort).
 use Rattle.std.specs.Prelude.{ℕ, Bool, cond, ◌&&◌, List, [], ◌∷◌, leb, eqb}
-use Rattle.records.specs.declared.Shape.{Shape}
+
+-- what a kind byte decides: the record's own sort (0 unknown, 1 concept, 2 role, 3 axiom), the length of its body, the limit of the
+-- number in it (0: there is none), and the sorts that its references must have (0: there is none)
+pub record Shape : Type 0 where
+  pub sort : ℕ
+  pub body : ℕ
+  pub limit : ℕ
+  pub first : ℕ
+  pub second : ℕ
 
 abbrev pub within : ℕ → ℕ → ℕ → Bool
 within lo hi k = leb lo k && leb k hi
 
--- the record's own sort (0 unknown, 1 concept, 2 role, 3 axiom), the length of its body, the limit of the number in it
--- (0: there is none), and the sorts that its references must have (0: there is none)
 abbrev pub shaped : ℕ → ℕ → ℕ → ℕ → ℕ → Shape
 shaped s b l f g = record { sort = s; body = b; limit = l; first = f; second = g }
 

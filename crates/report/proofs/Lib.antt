@@ -1,5 +1,5 @@
-pub mod Putting
 pub mod Decimals
+pub mod StdDecimals
 pub mod Reporting
 pub mod Front
 pub mod Worked

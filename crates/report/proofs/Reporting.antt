@@ -1,43 +1,47 @@
 -- From what read and judge answer to the evening program's lines.
 use Prim.Native.Nat.{ℕ}
-use mathlib.Core.Path.{◌≡◌, sym, ap, subst, ◌∙◌}
+use mathlib.Core.Path.{◌≡◌, refl, sym, ap, ◌∙◌}
 use mathlib.Core.Bool.{Bool, true, false}
 use mathlib.Core.List.{List, [], ◌∷◌, ◌++◌}
 use native.Mathlib.Omega.{arith}
-use Rattle.tbox.specs.declared.ReadAnswer.{ReadAnswer}
-use Rattle.tbox.specs.declared.ReadAnswer.TheVariants.{Refused, Read}
+use Rattle.std.specs.Prelude.{Result, Ok, Err}
+use mathlib.Core.Bool.{cond}
+use lib.Dec.{eqb}
+use Rattle.refusals.specs.Numbers.{number}
+use Rattle.refusals.specs.declared.Refusal.{Refusal}
+use Rattle.tbox.specs.declared.Counts.{Counts}
+use Rattle.domino_settling.specs.declared.judging.Judgement.{Judgement}
 use Rattle.syntax.specs.Reading.{Reading, refusal, kb}
 use Rattle.tbox.specs.Answers.{read_numbers}
 use Rattle.syntax.specs.Answers.{read_says}
-use Rattle.domino.specs.declared.JudgeAnswer.{JudgeAnswer}
-use Rattle.domino.specs.declared.JudgeAnswer.TheVariants.{Refused as NotJudged, Judged}
+use Rattle.domino_settling.specs.Settling.{met}
 use Rattle.domino.specs.Answers.{judge_numbers, judge_says, Judges}
 use Rattle.domino.proofs.SpeltOut.{judge_leaves-refusal}
 use Rattle.domino.proofs.Decides.{unequal}
-use Rattle.report.specs.Text.{Puts}
 use Rattle.report.specs.Lines.{refused_line, counts_line, sizes_line, verdict_line, judged_lines, evening_lines, Reports}
 
 -- the lines of either answer of judge
-module _ (t l c : ℕ) (a : JudgeAnswer) {before after : List ℕ} {r : ℕ} where
-  pub puts_refused : (n p : ℕ) → a ≡ NotJudged n p → Puts (refused_line n p) 0 before after r
-      → Puts (judged_lines t l c (judge_numbers a)) 0 before after r
-  unfolding judged_lines judge_numbers
-  puts_refused n p e puts = rw e puts
+module _ (t l c : ℕ) where
+  pub lines_refused : (r : Refusal) → refused_line (number r.reason) r.place ≡ judged_lines t l c (judge_numbers (Err r))
+  unfolding judged_lines
+  lines_refused r = refl
 
-  pub puts_judged : (o s : ℕ) (m : Bool) → a ≡ Judged o s m → Puts (counts_line t l c ++ sizes_line o s ++ verdict_line m) 0 before after r
-      → Puts (judged_lines t l c (judge_numbers a)) 0 before after r
-  unfolding judged_lines judge_numbers
-  puts_judged o s true e puts = rw e puts
-  puts_judged o s false e puts = rw e puts
+  pub lines_judged : (j : Judgement) → counts_line t l c ++ sizes_line j.opening j.survivors ++ verdict_line (met j) ≡ judged_lines t l c (judge_numbers (Ok j))
+  unfolding judged_lines
+  lines_judged j = ap (λ b. counts_line t l c ++ sizes_line j.opening j.survivors ++ verdict_line b) (as_said (met j))
+    where
+      as_said : (b : Bool) → b ≡ eqb (cond b 1 0) 1
+      as_said true = refl
+      as_said false = refl
 
 -- read refuses
-refused : (s : Reading) (ws before after : List ℕ) (r n p : ℕ) → n ∷ p ∷ [] ≡ read_says s → Puts (refused_line n p) 0 before after r
-    → Reports s ws ws before after r
+refused : (s : Reading) (ws before after : List ℕ) (n p : ℕ) → n ∷ p ∷ [] ≡ read_says s → after ≡ before ++ refused_line n p
+    → Reports s ws ws before after
 unfolding read_says evening_lines
-refused (refusal m q) ws before after r n p x puts =
+refused (refusal m q) ws before after n p x puts =
     let i : m ≡ n = cc in let j : q ≡ p = cc in
     record { lines = rw (i, j) puts; set = sym (judge_leaves-refusal ws m q) }
-refused (kb k) ws before after r n p x puts = unequal (n ∷ p ∷ []) _ x (omega arith)
+refused (kb k) ws before after n p x puts = unequal (n ∷ p ∷ []) _ x (omega arith)
 
 -- read answers its counts, and judge answers
 pub lines_of : (s : Reading) (ws : List ℕ) (t l c : ℕ) → 0 ∷ 0 ∷ t ∷ l ∷ c ∷ [] ≡ read_says s → judged_lines t l c (judge_says s ws) ≡ evening_lines s ws
@@ -45,18 +49,13 @@ unfolding read_says evening_lines
 lines_of (refusal m q) ws t l c x = unequal (m ∷ q ∷ []) (0 ∷ 0 ∷ t ∷ l ∷ c ∷ []) (sym x) (omega arith)
 lines_of (kb k) ws t l c x = cc
 
-judged : (s : Reading) (ws left before after : List ℕ) (j : JudgeAnswer) (r t l c : ℕ) → 0 ∷ 0 ∷ t ∷ l ∷ c ∷ [] ≡ read_says s → Judges s ws left j
-    → Puts (judged_lines t l c (judge_numbers j)) 0 before after r → Reports s ws left before after r
-judged s ws left before after j r t l c x says puts =
-    let e = ap (judged_lines t l c) says.answer ∙ lines_of s ws t l c x in
-    record { lines = subst (λ (b : List ℕ). Puts b 0 before after r) e puts; set = says.set }
+module _ (s : Reading) (ws before after : List ℕ) where
+  pub reports_refused : (r : Refusal) → read_numbers (Err r) ≡ read_says s → after ≡ before ++ refused_line (number r.reason) r.place
+      → Reports s ws ws before after
+  reports_refused r h puts = refused s ws before after (number r.reason) r.place h puts
 
-module _ (s : Reading) (a : ReadAnswer) (h : read_numbers a ≡ read_says s) (ws before after : List ℕ) (r : ℕ) where
-  pub reports_refused : (n p : ℕ) → a ≡ Refused n p → Puts (refused_line n p) 0 before after r → Reports s ws ws before after r
-  unfolding read_numbers
-  reports_refused n p e puts = refused s ws before after r n p (sym (ap read_numbers e) ∙ h) puts
-
-  pub reports_judged : (t l c : ℕ) → a ≡ Read t l c → (left : List ℕ) (j : JudgeAnswer) → Judges s ws left j
-      → Puts (judged_lines t l c (judge_numbers j)) 0 before after r → Reports s ws left before after r
-  unfolding read_numbers
-  reports_judged t l c e left j says puts = judged s ws left before after j r t l c (sym (ap read_numbers e) ∙ h) says puts
+  pub reports_judged : (n : Counts) → read_numbers (Ok n) ≡ read_says s → (left : List ℕ) (j : Result Judgement Refusal) → Judges s ws left j
+      → after ≡ before ++ judged_lines n.names n.roles n.parts (judge_numbers j) → Reports s ws left before after
+  reports_judged n h left j says puts =
+      let e = ap (judged_lines n.names n.roles n.parts) says.answer ∙ lines_of s ws n.names n.roles n.parts h in
+      record { lines = puts ∙ ap (λ lines. before ++ lines) e; set = says.set }

@@ -1,5 +1,5 @@
 -- What must be believed:
---   Text   texts and numbers as bytes; bytes put into a buffer
+--   Text   texts and numbers as bytes
 --   Lines  the lines of the evening program
 pub mod Text
 pub mod Lines

@@ -3,7 +3,7 @@ use Rattle.std.specs.Prelude.{ℕ, ◌≡◌, Bool, cond, List, ◌++◌, eqb, l
 use Rattle.syntax.specs.Reading.{Reading, refusal, kb, parts_of, read_kb}
 use Rattle.syntax.specs.Answers.{limit}
 use Rattle.domino.specs.Answers.{judge_says, judge_leaves}
-use Rattle.report.specs.Text.{text, labelled, Puts}
+use Rattle.report.specs.Text.{text, labelled}
 
 -- "A refusal prints one line, `refused 7 at 4`: number, then place."
 unfoldable pub refused_line : ℕ → ℕ → List ℕ
@@ -33,9 +33,9 @@ unfoldable pub evening_lines : Reading → List ℕ → List ℕ
 evening_lines (refusal n p) ws = refused_line n p
 evening_lines (kb k) ws = judged_lines k.names k.roles (length (parts_of k)) (judge_says (kb k) ws)
 
--- the lines stand at the front of the buffer, and the words are as judge leaves them
-pub record Reports (s : Reading) (words left before after : List ℕ) (r : ℕ) : Type 0 where
-  pub lines : Puts (evening_lines s words) 0 before after r
+-- the lines are put behind what the buffer held, and the words are as judge leaves them
+pub record Reports (s : Reading) (words left before after : List ℕ) : Type 0 where
+  pub lines : after ≡ before ++ evening_lines s words
   pub set : left ≡ judge_leaves s words
 
 -- what the evening program prints for a sheet: "with a set of 4,096 words"

@@ -1,5 +1,5 @@
--- Texts and numbers as bytes, and what it is to put bytes into a buffer.
-use Rattle.std.specs.Prelude.{ℕ, zero, suc, ◌+◌, ◌/◌, ◌%◌, ◌≤◌, ◌≡◌, cond, List, [], ◌∷◌, ◌++◌, ltb, length, take, drop}
+-- Texts and numbers as bytes.
+use Rattle.std.specs.Prelude.{ℕ, zero, suc, ◌+◌, ◌/◌, ◌%◌, cond, List, [], ◌∷◌, ◌++◌, ltb}
 use Prim.Native.Char.{code}
 use Prim.Native.String.{String, [] as no_more, ◌∷◌ as ◌and_then◌}
 
@@ -19,9 +19,3 @@ decimal n = decimal_in n n
 -- a text, then a number
 abbrev pub labelled : String → ℕ → List ℕ
 labelled label n = text label ++ decimal n
-
--- bytes put into a buffer from a place on, the others kept; the answer is the place after them
-pub record Puts (bytes : List ℕ) (at : ℕ) (before after : List ℕ) (r : ℕ) : Type 0 where
-  pub answer : r ≡ at + length bytes
-  pub fits : r ≤ length before
-  pub buffer : after ≡ take at before ++ bytes ++ drop r before

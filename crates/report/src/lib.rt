@@ -1,127 +1,124 @@
-// Texts and numbers put into a lent buffer, and the evening program's lines.
+// Texts and numbers put behind what a lent buffer holds, and the evening program's lines.
 #![tactic(auto)]
 
-ghost use Rattle.std.specs.Prelude.{◌+◌, ◌≤◌, ◌++◌, length};
-ghost use Rattle.report.specs.Text.{decimal, Puts};
+ghost use Rattle.std.specs.Prelude.{◌≡◌, ◌+◌, ◌≤◌, ◌++◌, length};
+ghost use Rattle.arrayvec.specs.ArrayVec.{array_vec_len};
+ghost use Rattle.refusals.specs.Numbers.{number};
+ghost use Rattle.report.specs.Text.{decimal};
 ghost use Rattle.syntax.specs.Reading.{read_kb};
 ghost use Rattle.syntax.specs.Answers.{limit};
 ghost use Rattle.domino.specs.Answers.{judge_numbers};
 ghost use Rattle.report.specs.Lines.{refused_line, counts_line, sizes_line, verdict_line, judged_lines, Reports};
 
-use domino::JudgeAnswer;
-use tbox::ReadAnswer;
+use arrayvec::ArrayVec;
+use domino_settling::judging::Judgement;
+use itoa::Buffer;
+use refusals::Refusal;
+use tbox::Counts;
 
-// Puts a text into the buffer from a place on, and answers the place after it.
-pub fn put_text(out: &mut [u8], at: usize, text: &[u8]) -> usize
-    requires { at + length text.now ≤ length out.old }
-    ensures { Puts text.now at out.old out.new result }
+// Puts a text.
+pub fn put_text<const N: usize>(out: &mut ArrayVec<u8, N>, text: &[u8])
+    requires { array_vec_len out.old + length text.now ≤ N }
+    ensures { out.new.items ≡ out.old.items ++ text.now }
 {
-    let mut i: usize = 0;
-    while i < text.len() {
-        out[at + i] = text[i];
-        i = i + 1;
-    }
-    at + i
+    out.try_extend_from_slice(text).unwrap();
 }
 
 // Puts a number in decimal digits; no number of 64 bits has more than 20.
-pub fn put_number(out: &mut [u8], at: usize, n: u64) -> usize
-    requires { at + 20 ≤ length out.old }
-    ensures puts { Puts (decimal n) at out.old out.new result }
-    ensures upper_bound { result ≤ at + 20 }
+pub fn put_number<const N: usize>(out: &mut ArrayVec<u8, N>, n: u64)
+    requires { array_vec_len out.old + 20 ≤ N }
+    ensures puts { out.new.items ≡ out.old.items ++ decimal n }
+    ensures upper_bound { array_vec_len out.new ≤ array_vec_len out.old + 20 }
 {
-    let mut digits = [0u8; 20];
-    let k = io::decimal(n, &mut digits);
-    put_text(out, at, &digits[..k])
+    put_text(out, Buffer::new().format(n).as_bytes());
 }
 
 // Puts a text, then a number.
-pub fn put_labelled(out: &mut [u8], at: usize, label: &[u8], n: u64) -> usize
-    requires { at + length label.now + 20 ≤ length out.old }
-    ensures puts { Puts (label.now ++ decimal n) at out.old out.new result }
-    ensures upper_bound { result ≤ at + length label.now + 20 }
+pub fn put_labelled<const N: usize>(out: &mut ArrayVec<u8, N>, label: &[u8], n: u64)
+    requires { array_vec_len out.old + length label.now + 20 ≤ N }
+    ensures puts { out.new.items ≡ out.old.items ++ label.now ++ decimal n }
+    ensures upper_bound { array_vec_len out.new ≤ array_vec_len out.old + length label.now + 20 }
 {
-    let next = put_text(out, at, label);
-    put_number(out, next, n)
+    put_text(out, label);
+    put_number(out, n);
 }
 
 // The line of a refusal: its number, then its place.
-pub(crate) fn put_refusal(out: &mut [u8], at: usize, number: u64, place: u64) -> usize
-    requires { at + 53 ≤ length out.old }
-    ensures { Puts (refused_line number place) at out.old out.new result }
+pub(crate) fn put_refusal<const N: usize>(out: &mut ArrayVec<u8, N>, refusal: Refusal)
+    requires { array_vec_len out.old + 53 ≤ N }
+    ensures { out.new.items ≡ out.old.items ++ refused_line (number refusal.reason) refusal.place }
 {
-    let first = put_labelled(out, at, b"refused ", number);
-    let second = put_labelled(out, first, b" at ", place);
-    put_text(out, second, b"\n")
+    put_labelled(out, b"refused ", u64::from(refusal.reason.number()));
+    put_labelled(out, b" at ", refusal.place as u64);
+    put_text(out, b"\n");
 }
 
 // The line of the counts of names, roles and parts.
-pub(crate) fn put_counts(out: &mut [u8], at: usize, names: u64, roles: u64, parts: u64) -> usize
-    requires { at + 82 ≤ length out.old }
-    ensures puts { Puts (counts_line names roles parts) at out.old out.new result }
-    ensures upper_bound { result ≤ at + 82 }
+#[tactic(auto, unfolding(crate::specs::Text::text, crate::specs::Lines::counts_line))]
+pub(crate) fn put_counts<const N: usize>(out: &mut ArrayVec<u8, N>, counts: Counts)
+    requires { array_vec_len out.old + 82 ≤ N }
+    ensures puts { out.new.items ≡ out.old.items ++ counts_line counts.names counts.roles counts.parts }
+    ensures upper_bound { array_vec_len out.new ≤ array_vec_len out.old + 82 }
 {
-    let first = put_labelled(out, at, b"traits ", names);
-    let second = put_labelled(out, first, b" links ", roles);
-    let third = put_labelled(out, second, b" marks ", parts);
-    put_text(out, third, b"\n")
+    put_labelled(out, b"traits ", counts.names as u64);
+    put_labelled(out, b" links ", counts.roles as u64);
+    put_labelled(out, b" marks ", counts.parts as u64);
+    put_text(out, b"\n");
 }
 
 // The line of the sizes of the initial and the canonical set.
-pub(crate) fn put_sizes(out: &mut [u8], at: usize, opening: u64, survivors: u64) -> usize
-    requires { at + 60 ≤ length out.old }
-    ensures puts { Puts (sizes_line opening survivors) at out.old out.new result }
-    ensures upper_bound { result ≤ at + 60 }
+#[tactic(auto, unfolding(crate::specs::Text::text, crate::specs::Lines::sizes_line))]
+pub(crate) fn put_sizes<const N: usize>(out: &mut ArrayVec<u8, N>, opening: u64, survivors: u64)
+    requires { array_vec_len out.old + 60 ≤ N }
+    ensures puts { out.new.items ≡ out.old.items ++ sizes_line opening survivors }
+    ensures upper_bound { array_vec_len out.new ≤ array_vec_len out.old + 60 }
 {
-    let first = put_labelled(out, at, b"opening ", opening);
-    let second = put_labelled(out, first, b" survivors ", survivors);
-    put_text(out, second, b"\n")
+    put_labelled(out, b"opening ", opening);
+    put_labelled(out, b" survivors ", survivors);
+    put_text(out, b"\n");
 }
 
 // The line of the verdict.
-pub(crate) fn put_verdict(out: &mut [u8], at: usize, met: bool) -> usize
-    requires { at + 14 ≤ length out.old }
-    ensures { Puts (verdict_line met) at out.old out.new result }
+pub(crate) fn put_verdict<const N: usize>(out: &mut ArrayVec<u8, N>, met: bool)
+    requires { array_vec_len out.old + 14 ≤ N }
+    ensures { out.new.items ≡ out.old.items ++ verdict_line met }
 {
     if met {
-        put_text(out, at, b"can be met\n")
+        put_text(out, b"can be met\n");
     } else {
-        put_text(out, at, b"cannot be met\n")
+        put_text(out, b"cannot be met\n");
     }
 }
 
 // The lines of what judge answered, beside the counts of names, roles and parts.
-pub(crate) fn put_judged(
-    out: &mut [u8],
-    names: u64,
-    roles: u64,
-    parts: u64,
-    answer: JudgeAnswer,
-) -> usize
-    requires { 160 ≤ length out.old }
-    ensures { Puts (judged_lines names roles parts (judge_numbers answer)) 0 out.old out.new result }
+pub(crate) fn put_judged<const N: usize>(
+    out: &mut ArrayVec<u8, N>,
+    counts: Counts,
+    answer: Result<Judgement, Refusal>,
+)
+    requires { array_vec_len out.old + 160 ≤ N }
+    ensures { out.new.items ≡ out.old.items ++ judged_lines counts.names counts.roles counts.parts (judge_numbers answer) }
 {
     match answer {
-        JudgeAnswer::Refused(number, place) => put_refusal(out, 0, number as u64, place as u64),
-        JudgeAnswer::Judged(opening, survivors, met) => {
-            let first = put_counts(out, 0, names, roles, parts);
-            let second = put_sizes(out, first, opening, survivors);
-            put_verdict(out, second, met)
+        Err(refusal) => put_refusal(out, refusal),
+        Ok(judgement) => {
+            put_counts(out, counts);
+            put_sizes(out, judgement.opening, judgement.survivors);
+            put_verdict(out, judgement.is_met());
         }
     }
 }
 
-// The evening program's lines for a sheet, judged with the lent words, at the front of the buffer; answers how many bytes.
-pub fn evening(sheet: &[u8], set: &mut [u64], out: &mut [u8]) -> usize
-    requires { 160 ≤ length out.old }
-    ensures { Reports (read_kb limit sheet.now) set.old set.new out.old out.new result }
+// Puts the evening program's lines for a sheet, judged with the lent words.
+pub fn evening<const N: usize>(sheet: &[u8], set: &mut [u64], out: &mut ArrayVec<u8, N>)
+    requires { array_vec_len out.old + 160 ≤ N }
+    ensures { Reports (read_kb limit sheet.now) set.old set.new out.old.items out.new.items }
 {
-    let counts = tbox::read(sheet);
-    match counts {
-        ReadAnswer::Refused(number, place) => put_refusal(out, 0, number as u64, place as u64),
-        ReadAnswer::Read(names, roles, parts) => {
+    match tbox::read(sheet) {
+        Err(refusal) => put_refusal(out, refusal),
+        Ok(counts) => {
             let answer = domino::judge(sheet, set);
-            put_judged(out, names as u64, roles as u64, parts as u64, answer)
+            put_judged(out, counts, answer);
         }
     }
 }

@@ -6,7 +6,7 @@ use mathlib.Core.List.{List, [], ◌∷◌, ◌++◌}
 use lib.ListN.{length, get_or, take}
 use lib.Seq.{get_or-take}
 use native.Mathlib.Omega.{arith}
-use Rattle.records.specs.declared.Entry.{Entry}
+use Rattle.records.specs.Entries.{Entry}
 use Rattle.records.specs.Shapes.{shape_of, is_restriction_lem}
 use Rattle.records.specs.Scan.{State, record_at_lem, whole, scan_sheet}
 use Rattle.syntax.specs.Concepts.{Role, Concept, Node, concept_n, role_n, axiom_n, as_concept, as_role, no_node, concept_at, role_at, node_of, nodes_of, axiom_of, axioms_of}

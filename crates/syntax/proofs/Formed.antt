@@ -11,8 +11,8 @@ use native.Mathlib.Omega.{arith}
 use borrow.Author.Tests.{eqb-true, eqb-false, leb-false, ltb-true, ltb-false}
 use Rattle.bitset.specs.Bits.{bit}
 use Rattle.bitset.proofs.Laws.{bit_past}
-use Rattle.records.specs.declared.Shape.{Shape}
-use Rattle.records.specs.declared.Entry.{Entry}
+use Rattle.records.specs.Shapes.{Shape}
+use Rattle.records.specs.Entries.{Entry}
 use Rattle.records.specs.Shapes.{shape_of, is_leaf_lem, is_restriction_lem}
 use Rattle.records.specs.Scan.{State, start, blank, record_at_lem, number_fault_lem, reference_fault_lem, naming, name, empty_fault_lem, body_fault, vacuous_of_lem, entry_for, names_after_lem, roles_after_lem, after, record_fault, record_after, whole, scan_sheet}
 use Rattle.syntax.specs.Concepts.{Node, as_role, no_node, role_at, node_of, nodes_of}

@@ -7,7 +7,7 @@ use lib.Seq.{get_or-take, take_at, get_or_at, length-take-le, take_all}
 use native.Mathlib.Omega.{arith}
 use native.Mathlib.Nat.{add-zero, zero-add}
 use native.Mathlib.Decide.{dec_lt}
-use Rattle.records.specs.declared.Entry.{Entry}
+use Rattle.records.specs.Entries.{Entry}
 use Rattle.records.specs.Shapes.{shape_of}
 use Rattle.records.specs.Scan.{record_at_lem, blank}
 use Rattle.syntax.specs.Concepts.{Role, named, Concept, bottom_c, Node, as_concept, as_role, no_node, node_of, node_for, nodes_from, nodes_of, axiom_of, concept_below, role_below}

@@ -1,6 +1,6 @@
 -- Roles, concepts and axioms as trees (002, Table 1, for ALCIb), and the tree of a record, made of those of earlier records.
 use Rattle.std.specs.Prelude.{ℕ, cond, List, [], ◌∷◌, ◌++◌, length, get_or, eqb, take}
-use Rattle.records.specs.declared.Entry.{Entry}
+use Rattle.records.specs.Entries.{Entry}
 
 -- role expressions; 01 calls a role a link, an inverse role a reversed link
 pub data Role : Type 0 where

@@ -1,6 +1,6 @@
 -- Records and their bytes (01, "The sheet's bytes"): a list of records laid one after another, and which lists may be a sheet's.
 use Rattle.std.specs.Prelude.{ℕ, ◌≤◌, ◌≡◌, List, [], ◌∷◌, ◌++◌, length, take}
-use Rattle.records.specs.declared.Entry.{Entry}
+use Rattle.records.specs.Entries.{Entry}
 use Rattle.records.specs.Shapes.{shape_of}
 use Rattle.records.specs.Scan.{State, start, body_fault, after}
 

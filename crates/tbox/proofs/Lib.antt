@@ -1,6 +1,9 @@
 pub mod BaseTables
+pub mod KindNumbers
 pub mod PartBytes
+pub mod PartLists
 pub mod PlacesFound
 pub mod QueueTruth
+pub mod ReadingTruth
 pub mod RecordTruth
 pub mod SheetsRead

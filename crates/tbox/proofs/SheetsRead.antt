@@ -1,115 +1,83 @@
 -- Laws on what reading a sheet answers.
-use Prim.Native.Nat.{ℕ, ◌+◌, ◌*◌, ◌-◌, ◌≤◌, ◌<◌}
-use mathlib.Core.Path.{◌≡◌, refl, sym, ap, ◌∙◌}
-use mathlib.Core.List.{List, [], ◌∷◌, ◌++◌}
-use lib.ListN.{length, take, drop}
-use native.Mathlib.Omega.{arith}
-use borrow.Author.Tests.{le-leb, lt-leb, lt-ltb, le-ltb}
+use Rattle.std.proofs.Common.{◌≡◌, ℕ, ◌+◌, ◌*◌, ◌≤◌, ◌<◌, List, [], ◌∷◌, ◌++◌, length, drop, Result, Ok, Err, refl, sym, ap, ◌∙◌, arith}
+use Rattle.std.specs.List.{flat_map}
+use Rattle.std.proofs.lemmas.Bool.{le-leb, lt-leb, lt-ltb, le-ltb}
+use Rattle.refusals.specs.Numbers.{number}
+use Rattle.refusals.specs.declared.Reason.TheVariants.{ListTooShort}
+use Rattle.refusals.specs.declared.Refusal.{Refusal}
+use Rattle.records.specs.Entries.{Entry}
+use Rattle.records.specs.RecordTable.{state_of, Scans}
 use Rattle.records.specs.declared.Progress.{Progress}
-use Rattle.records.specs.declared.Scanned.TheVariants.{Refused as NotScanned, Whole}
+use Rattle.syntax.specs.Reading.{Reading, refusal, kb, kb_of, parts_of, admit, reading, read_kb}
+use Rattle.syntax.specs.Answers.{limit, read_says, list_says, list_leaves}
+use Rattle.syntax.proofs.Formed.{read-few}
+use Rattle.flattening.specs.Origins.{parts_made, slot_bytes}
 use Rattle.tbox.specs.declared.admission.Admitted.{Admitted}
-use Rattle.tbox.specs.declared.ReadAnswer.TheVariants.{Refused, Read}
-use Rattle.tbox.specs.declared.ListAnswer.TheVariants.{Refused as NotListed, Listed}
-use Rattle.syntax.specs.Reading.{Kb, Reading, parts_of, admit, reading, read_kb}
-use Rattle.tbox.specs.Answers.{read_numbers, list_numbers, Lists}
-use Rattle.syntax.specs.Answers.{read_says, list_says, list_leaves}
-use Rattle.records.specs.RecordTable.{seen, Scans}
-use Rattle.flattening.specs.PartTable.{Stood, Held}
-use Rattle.tbox.specs.Admission.{kb_in, kb_admitted, found_in, Admits}
-use Rattle.tbox.specs.ListBytes.{slots_of}
-use Rattle.flattening.proofs.PartTables.{held-length}
+use Rattle.tbox.specs.declared.Counts.{Counts}
+use Rattle.tbox.specs.Answers.{read_numbers, Lists}
+use Rattle.tbox.specs.Admission.{kb_admitted, Reads}
+use Rattle.tbox.proofs.PartLists.{made-length}
 use Rattle.tbox.proofs.PartBytes.{slots-bytes}
 
 -- a sheet that the scan refuses
-pub admits_refused : (bound : ℕ) (sheet table parts' : List ℕ) (f place : ℕ) → Scans sheet table (NotScanned f place) →
-    Admits bound sheet table parts' (found_in f place (record { count = 0; at = 0; names = 0; roles = 0 }) 0)
+pub scan-refused : (sheet : List ℕ) (es : List Entry) (x : Result Progress Refusal) (r : Refusal) → Scans sheet es x → x ≡ Err r →
+    read_kb limit sheet ≡ refusal (number r.reason) r.place
 unfolding read_kb reading
-admits_refused bound sheet table parts' f place s =
-    record {
-      refused = λ _. sym (ap (reading bound) s.result);
-      read = λ z. absurd (s.fits z);
-      records = omega arith;
-      held = λ z. absurd (s.fits z);
-      small = λ z. absurd (s.fits z);
-    }
+scan-refused sheet es x r s e = sym (ap (reading limit) (rw e at s))
 
--- the knowledge base of the records that were scanned
-abbrev pub kb_scanned : List ℕ → Progress → Kb
-kb_scanned table p = kb_in table p.count p.names p.roles
-
-module _ (bound : ℕ) (sheet table : List ℕ) (p : Progress) (s : Scans sheet table (Whole p)) (parts' : List ℕ) (c : ℕ)
-    (h : Held bound (seen table p.count) parts' c (parts_of (kb_scanned table p))) where
-  scan-whole : read_kb bound sheet ≡ admit bound (kb_scanned table p)
+-- a sheet that it does not
+module _ (sheet : List ℕ) (es : List Entry) (p : Progress) (s : Scans sheet es (Ok p)) where
+  scan-whole : read_kb limit sheet ≡ admit limit (kb_of (state_of es p))
   unfolding read_kb reading
-  scan-whole = sym (ap (reading bound) s.result)
+  scan-whole = sym (ap (reading limit) s)
 
-  nine : bound < length (parts_of (kb_scanned table p)) + p.roles → Admits bound sheet table parts' (found_in 9 0 p c)
+  pub scanned_few : p.roles ≤ 4
+  scanned_few = (read-few sheet (state_of es p) (sym s)).1
+
+  pub parts_over : limit < length (parts_made p.names es) + p.roles → read_kb limit sheet ≡ refusal 9 0
   unfolding admit
-  nine l =
-      record {
-        refused = λ _. scan-whole ∙ simp (lt-leb _ _ l);
-        read = λ f. absurd (omega arith);
-        records = s.fits;
-        held = λ f. absurd (omega arith);
-        small = λ f. absurd (omega arith);
-      }
+  parts_over l = scan-whole ∙ simp (lt-leb _ _ l)
 
-  pub admits_over : bound < c → Admits bound sheet table parts' (found_in 9 0 p c)
-  admits_over l = nine (omega (arith, h.count))
-
-  pub admits_roles : c ≤ bound → bound - c < p.roles → Admits bound sheet table parts' (found_in 9 0 p c)
-  admits_roles n l = nine (omega (arith, held-length n h))
-
-  pub admits_whole : c ≤ bound → p.roles ≤ bound - c → Admits bound sheet table parts' (found_in 0 0 p c)
+  pub parts_fit : length (parts_made p.names es) + p.roles ≤ limit → read_kb limit sheet ≡ kb (kb_of (state_of es p))
   unfolding admit
-  admits_whole n l =
-      record {
-        refused = λ f. absurd (f refl);
-        read = λ _. scan-whole ∙ simp (le-leb _ _ fit);
-        records = s.fits;
-        held = λ _. h;
-        small = λ _. omega arith;
-      }
-    where
-      fit : length (parts_of (kb_scanned table p)) + p.roles ≤ bound
-      fit = omega (arith, held-length n h)
+  parts_fit l = scan-whole ∙ simp (le-leb _ _ l)
 
-module _ (bound : ℕ) (sheet table parts' : List ℕ) (a : Admitted) (p : Admits bound sheet table parts' a) where
-  pub count-is : a.fault ≡ 0 → a.parts ≡ length (parts_of (kb_admitted table a))
-  count-is z = sym (held-length (omega (arith, p.small z)) (p.held z))
+-- what a call answers of a sheet that is refused
+pub read-refused : (r : Reading) (x : Refusal) → r ≡ refusal (number x.reason) x.place → read_numbers (Err x) ≡ read_says r
+unfolding read_says
+read-refused r x e = rw e
 
-  pub stood : a.fault ≡ 0 → Stood (seen table a.count) parts' (parts_of (kb_admitted table a))
-  stood z = (p.held z).stand (omega (arith, count-is z, p.small z))
+pub list-refused : (r : Reading) (b : List ℕ) (x : Refusal) → r ≡ refusal (number x.reason) x.place → Lists r b b (Err x)
+unfolding list_says list_leaves
+list-refused r b x e = rw e (record { answer = refl; list = refl })
 
-  pub read-refused : (a.fault ≡ 0 → ⊥) → read_numbers (Refused a.fault a.place) ≡ read_says (read_kb bound sheet)
-  unfolding read_numbers read_says
-  read-refused z = sym (ap read_says (p.refused z))
+-- and of one that is read
+module _ (sheet : List ℕ) (es : List Entry) (a : Admitted) (h : Reads sheet es a) where
+  pub count-is : length a.parts.items ≡ length (parts_of (kb_admitted es a))
+  count-is = sym (made-length es a.names a.parts.items h.parts)
 
-  pub read_whole : a.fault ≡ 0 → read_numbers (Read a.names a.roles a.parts) ≡ read_says (read_kb bound sheet)
-  unfolding read_numbers read_says
-  read_whole z = rw (count-is z) (sym (ap read_says (p.read z)))
+  pub read_whole : (n : Counts) → n.names ≡ a.names → n.roles ≡ a.roles → n.parts ≡ length a.parts.items →
+      read_numbers (Ok n) ≡ read_says (read_kb limit sheet)
+  unfolding read_says
+  read_whole n t l c = rw (h.reading, t, l, c, count-is)
 
   module _ (b : List ℕ) where
-    pub list-refused : (a.fault ≡ 0 → ⊥) → Lists (read_kb bound sheet) b b (NotListed a.fault a.place)
-    unfolding list_numbers list_says list_leaves
-    list-refused z = record { answer = sym (ap (λ (x : Reading). list_says x b) (p.refused z)); list = sym (ap (λ (x : Reading). list_leaves x b) (p.refused z)) }
-
-    pub list-short : a.fault ≡ 0 → length b < 3 * a.parts → Lists (read_kb bound sheet) b b (NotListed 12 0)
-    unfolding list_numbers list_says list_leaves
-    list-short z h =
-        rw (p.read z) (record { answer = simp (lt-ltb _ _ less); list = simp (lt-ltb _ _ less) })
+    pub list-short : (x : Refusal) → x.reason ≡ ListTooShort → x.place ≡ 0 → length b < 3 * length a.parts.items → Lists (read_kb limit sheet) b b (Err x)
+    unfolding list_says list_leaves
+    list-short x n p l =
+        rw (h.reading, n, p) (record { answer = simp (lt-ltb _ _ less); list = simp (lt-ltb _ _ less) })
       where
-        less : length b < 3 * length (parts_of (kb_admitted table a))
-        less = omega (arith, count-is z)
+        less : length b < 3 * length (parts_of (kb_admitted es a))
+        less = omega (arith, count-is)
 
-    pub list-whole : a.fault ≡ 0 → length parts' ≡ 20 → bound ≤ 20 → 3 * a.parts ≤ length b → (l : List ℕ) →
-        l ≡ slots_of (take a.parts parts') ++ drop (3 * a.parts) b → Lists (read_kb bound sheet) b l (Listed a.parts)
-    unfolding list_numbers list_says list_leaves
-    list-whole z n m h l q =
-        rw (p.read z) (record {
-          answer = ap (λ (x : ℕ). 0 ∷ 0 ∷ x ∷ []) (count-is z) ∙ simp (le-ltb _ _ room);
-          list = q ∙ rw (count-is z, slots-bytes (seen table a.count) parts' (parts_of (kb_admitted table a)) (omega (arith, count-is z, p.small z)) (stood z)) (simp (le-ltb _ _ room));
+    pub list-whole : (c : ℕ) → c ≡ length a.parts.items → 3 * c ≤ length b → (l : List ℕ) →
+        l ≡ flat_map slot_bytes a.parts.items ++ drop (3 * length a.parts.items) b → Lists (read_kb limit sheet) b l (Ok c)
+    unfolding list_says list_leaves
+    list-whole c e m l q =
+        rw h.reading (record {
+          answer = ap (λ (x : ℕ). 0 ∷ 0 ∷ x ∷ []) (e ∙ count-is) ∙ simp (le-ltb _ _ room);
+          list = q ∙ rw (slots-bytes es 0 a.parts.items, h.parts, count-is) (simp (le-ltb _ _ room));
         })
       where
-        room : 3 * length (parts_of (kb_admitted table a)) ≤ length b
-        room = omega (arith, count-is z)
+        room : 3 * length (parts_of (kb_admitted es a)) ≤ length b
+        room = omega (arith, e, count-is)

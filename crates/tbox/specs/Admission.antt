@@ -1,26 +1,23 @@
--- A sheet that is read, or refused, with its tables of records and parts.
-use Rattle.std.specs.Prelude.{ℕ, ◌+◌, ◌≤◌, ◌≡◌, List}
-use Rattle.records.specs.declared.Progress.{Progress}
-use Rattle.tbox.specs.declared.admission.Admitted.{Admitted}
-use Rattle.records.specs.RecordTable.{seen}
+-- A sheet that is read, with its records and parts, or refused.
+use Rattle.std.specs.Prelude.{ℕ, ◌≡◌, List, Result, Ok, Err}
+use Rattle.refusals.specs.Numbers.{number}
+use Rattle.refusals.specs.declared.Refusal.{Refusal}
+use Rattle.records.specs.Entries.{Entry}
 use Rattle.syntax.specs.Concepts.{nodes_of, axioms_of}
-use Rattle.syntax.specs.Reading.{Kb, refusal, kb, parts_of, read_kb}
-use Rattle.flattening.specs.PartTable.{Held}
+use Rattle.syntax.specs.Reading.{Kb, refusal, kb, read_kb}
+use Rattle.syntax.specs.Answers.{limit}
+use Rattle.tbox.specs.declared.admission.Admitted.{Admitted}
+use Rattle.tbox.specs.GoodLabels.{Made}
 
--- the knowledge base of a table of records
-abbrev pub kb_in : List ℕ → ℕ → ℕ → ℕ → Kb
-kb_in table n names roles = record { names = names; roles = roles; axioms = axioms_of (nodes_of (seen table n)) }
+-- the knowledge base that records make
+abbrev pub kb_admitted : List Entry → Admitted → Kb
+kb_admitted es a = record { names = a.names; roles = a.roles; axioms = axioms_of (nodes_of es) }
 
-abbrev pub kb_admitted : List ℕ → Admitted → Kb
-kb_admitted table a = kb_in table a.count a.names a.roles
+pub record Reads (sheet : List ℕ) (es : List Entry) (a : Admitted) : Type 0 where
+  pub reading : read_kb limit sheet ≡ kb (kb_admitted es a)
+  pub parts : Made es a.names a.parts.items
 
-abbrev pub found_in : ℕ → ℕ → Progress → ℕ → Admitted
-found_in f place p c = record { fault = f; place = place; count = p.count; names = p.names; roles = p.roles; parts = c }
-
--- a sheet that is read, or refused: fault 0 or the refusal
-pub record Admits (bound : ℕ) (sheet table parts' : List ℕ) (r : Admitted) : Type 0 where
-  pub refused : (r.fault ≡ 0 → ⊥) → read_kb bound sheet ≡ refusal r.fault r.place
-  pub read : r.fault ≡ 0 → read_kb bound sheet ≡ kb (kb_admitted table r)
-  pub records : r.count ≤ 255
-  pub held : r.fault ≡ 0 → Held bound (seen table r.count) parts' r.parts (parts_of (kb_admitted table r))
-  pub small : r.fault ≡ 0 → r.parts + r.roles ≤ bound
+-- a sheet that is read, or refused
+abbrev pub Admits : List ℕ → List Entry → Result Admitted Refusal → Type 0
+Admits sheet es (Ok a) = Reads sheet es a
+Admits sheet es (Err r) = read_kb limit sheet ≡ refusal (number r.reason) r.place

@@ -1,21 +1,21 @@
 -- What each call answers and leaves (01, "The calls, and what each refuses").
-use Rattle.std.specs.Prelude.{ℕ, List, [], ◌∷◌, ◌≡◌}
-use Rattle.tbox.specs.declared.ReadAnswer.{ReadAnswer}
-use Rattle.tbox.specs.declared.ReadAnswer.TheVariants.{Refused, Read}
-use Rattle.tbox.specs.declared.ListAnswer.{ListAnswer}
-use Rattle.tbox.specs.declared.ListAnswer.TheVariants.{Refused as NotListed, Listed}
+use Rattle.std.specs.Prelude.{ℕ, List, [], ◌∷◌, ◌≡◌, Result}
+use Rattle.refusals.specs.Numbers.{numbers_of}
+use Rattle.refusals.specs.declared.Refusal.{Refusal}
+use Rattle.tbox.specs.declared.Counts.{Counts}
 use Rattle.syntax.specs.Reading.{Reading}
 use Rattle.syntax.specs.Answers.{list_leaves, list_says}
 
 -- document 01's number and values for each case of an answer: the refusal's number (0 for none), its place, then the values
-unfoldable pub read_numbers : ReadAnswer → List ℕ
-read_numbers (Refused n p) = n ∷ p ∷ []
-read_numbers (Read t l c) = 0 ∷ 0 ∷ t ∷ l ∷ c ∷ []
+abbrev pub count_values : Counts → List ℕ
+count_values n = n.names ∷ n.roles ∷ n.parts ∷ []
 
-unfoldable pub list_numbers : ListAnswer → List ℕ
-list_numbers (NotListed n p) = n ∷ p ∷ []
-list_numbers (Listed c) = 0 ∷ 0 ∷ c ∷ []
+abbrev pub read_numbers : Result Counts Refusal → List ℕ
+read_numbers = numbers_of count_values
 
-pub record Lists (s : Reading) (before after : List ℕ) (r : ListAnswer) : Type 0 where
+abbrev pub list_numbers : Result ℕ Refusal → List ℕ
+list_numbers = numbers_of (λ c. c ∷ [])
+
+pub record Lists (s : Reading) (before after : List ℕ) (r : Result ℕ Refusal) : Type 0 where
   pub answer : list_numbers r ≡ list_says s before
   pub list : after ≡ list_leaves s before

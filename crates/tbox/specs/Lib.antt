@@ -2,15 +2,15 @@
 --   Answers            document 01's numbers for the answers of read and list marks
 --   Promise            the flattened knowledge base as plain data, for the layers above
 -- What functions tell each other:
---   Admission          a sheet read into its tables, or refused
---   RestrictionPlaces  where each restriction stands among the parts
---   TruthWords         words of labels on which what is gone through holds
---   PlainData          the tables of the flattened knowledge base
---   ListBytes          the bytes of parts in a lent list
+--   Admission          a sheet read into its records and parts, or refused
+--   PlainData          parts as plain data
+--   RestrictionPlaces  where each record that is a restriction stands among the parts
+--   TruthWords         on which labels what is gone through holds, 64 at a time
+--   GoodLabels         the labels on which every flattened axiom holds
 pub mod Answers
 pub mod Promise
 pub mod Admission
+pub mod PlainData
 pub mod RestrictionPlaces
 pub mod TruthWords
-pub mod PlainData
-pub mod ListBytes
+pub mod GoodLabels

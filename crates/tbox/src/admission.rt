@@ -1,63 +1,43 @@
-// Reading a sheet into its tables of records and parts, or its refusal.
-ghost use Rattle.std.specs.Prelude.{◌≡◌, ◌≤◌};
-ghost use Rattle.tbox.specs.Admission.{found_in, Admits};
+// Reading a sheet into its records and parts, or its refusal.
+ghost use Rattle.std.specs.Prelude.{◌+◌, ◌≤◌, length};
 
-use flattening::parts::flatten;
-use records::{Progress, Scanned, scan};
+use arrayvec::ArrayVec;
+use flattening::parts::{Origin, flatten};
+use records::scan;
+use records::table::Table;
+use refusals::{Reason, Refusal};
 
-// What reading a sheet found: a fault and its place, or fault 0 and the counts of records, names, roles and parts.
-#[derive(Clone, Copy)]
+// Parts and roles together are at most this many: document 01's limit on c + L.
+const LIMIT: usize = 12;
+
+// What a sheet that is read has beside its records: how many names and roles, and the parts.
+#[derive(Drop)]
 pub struct Admitted {
-    pub fault: u8,
-    pub place: usize,
-    pub count: usize,
     pub names: usize,
     pub roles: usize,
-    pub parts: usize,
+    pub parts: ArrayVec<Origin, 20>,
+    pub ghost small: { length parts.items + roles ≤ 12 },
+    pub ghost few: { roles ≤ 4 },
 }
 
-fn found(fault: u8, p: Progress, parts: usize) -> Admitted
-    ensures { result ≡ found_in fault 0 p parts }
-{
-    Admitted {
-        fault: fault,
-        place: 0,
-        count: p.count,
-        names: p.names,
-        roles: p.roles,
-        parts: parts,
-    }
-}
+impl Admitted {
+    ghost use Rattle.tbox.specs.Admission.{Admits};
 
-// Reads a sheet into a table of records and a table of parts; parts and roles together are at most the bound, itself at most 20.
-pub(crate) fn admit(
-    sheet: &[u8],
-    table: &mut [u32; 255],
-    parts: &mut [u32; 20],
-    bound: usize,
-) -> Admitted
-    requires { bound ≤ 20 }
-    ensures { Admits bound sheet.now table.new parts.new result }
-{
-    let s = scan(sheet, table);
-    match s {
-        Scanned::Refused(f, place) => Admitted {
-            fault: f,
-            place: place,
-            count: 0,
-            names: 0,
-            roles: 0,
-            parts: 0,
-        },
-        Scanned::Whole(p) => {
-            let c = flatten(table, p.count, p.names, parts, bound);
-            if bound < c {
-                return found(9, p, c);
-            }
-            if bound - c < p.roles {
-                return found(9, p, c);
-            }
-            found(0, p, c)
+    // Reads a sheet into a table of its records.
+    pub(crate) fn read(sheet: &[u8], table: &mut Table) -> Result<Admitted, Refusal>
+        ensures { Admits sheet.now table.new result }
+    {
+        let scanned = scan(sheet, table)?;
+        let Ok(parts) = flatten(table, scanned.names) else {
+            return Err(Refusal::of(Reason::TooManyParts));
+        };
+        if LIMIT < parts.len() + scanned.roles {
+            return Err(Refusal::of(Reason::TooManyParts));
         }
+        Ok(Admitted {
+            names: scanned.names,
+            roles: scanned.roles,
+            parts,
+        })
     }
 }

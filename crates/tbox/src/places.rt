@@ -1,102 +1,107 @@
 // Where each restriction stands among the parts.
-ghost use Rattle.std.specs.Prelude.{◌≡◌, ◌<◌, ◌≤◌, length, set};
-ghost use Rattle.syntax.specs.Flatten.{atom};
-ghost use Rattle.records.specs.RecordTable.{seen};
-ghost use Rattle.flattening.specs.PartTable.{nf_below, AtomIs};
-ghost use Rattle.tbox.specs.RestrictionPlaces.{kind_under_lem, PlaceAt, NotesOne, PlacesOf};
+ghost use Rattle.std.specs.Prelude.{◌≡◌, ◌≤◌, length};
+ghost use Rattle.flattening.specs.Origins.{atom_found, parts_in};
+ghost use Rattle.flattening.specs.Trees.{role_at};
+ghost use Rattle.tbox.specs.RestrictionPlaces.{PlacedFor, PairFor, PlaceAt, PlacesOf, pair_at};
 
-use flattening::FRESH;
-use flattening::parts::{negated_atom, plain_atom};
+use flattening::parts::{Atom, Origin, Quantifier, negated_atom, plain_atom};
 use flattening::sharing::first_alike;
-use records::record_at;
+use flattening::trees::Tree;
+use records::nodes::Node;
+use records::table::Table;
 
-// The normal form of record r, of those below a number, under a not if odd, as a filler.
-fn atom_under(table: &[u32; 255], count: usize, r: u8, below: usize, odd: bool) -> u16
-    requires { count ≤ 255 }
-    ensures { AtomIs (atom (nf_below odd (seen table.now count) below r)) result }
-{
-    if odd {
-        return negated_atom(table, count, r, below);
-    }
-    plain_atom(table, count, r, below)
+// The places of a restriction, read plainly and under a not; none if the filler needs a fresh name.
+#[derive(Clone, Copy, Default)]
+pub(crate) struct Pair {
+    pub(crate) plain: Option<u8>,
+    pub(crate) negated: Option<u8>,
 }
 
-// What a some (7) or only (8) is in normal form, under a not if odd: 2 existential, 3 universal.
-fn kind_under(kind: u8, odd: bool) -> u8
-    ensures { result ≡ kind_under_lem kind odd }
-{
-    if odd {
-        return if kind == 0x07 { 3 } else { 2 };
-    }
-    if kind == 0x07 { 2 } else { 3 }
+// The parts of a knowledge base: few, so that a byte holds a part's number.
+#[derive(Clone, Copy)]
+struct Parts<'a> {
+    origins: &'a [Origin],
+    ghost few: { length origins.now ≤ 20 },
 }
 
-// The part of record r if that is a restriction; FRESH if its filler needs a fresh name.
-fn place_of(table: &[u32; 255], count: usize, parts: &[u32; 20], c: usize, r: u8, odd: bool) -> u16
-    requires { (count ≤ 255) × (c ≤ 20) }
-    ensures { PlaceAt (seen table.now count) parts.now c r odd result }
-{
-    let e = record_at(table, count, r);
-    let k = e.kind;
-    match k {
-        0x07..=0x08 => {
-            let f = atom_under(table, count, e.second, r as usize, odd);
-            if f == FRESH {
-                return FRESH;
-            }
-            let kind = kind_under(k, odd);
-            first_alike(table, count, parts, c, kind, e.first, r as usize, f) as u16
+impl<'a> Parts<'a> {
+    // The part that a restriction with the given role and filler is.
+    fn place(self, quantifier: Quantifier, role: Tree, filler: Option<Atom>) -> Option<u8>
+        ensures { PlacedFor (parts_in role.entry.table.now self.entry.origins.now) quantifier (role_at role.entry) (atom_found filler) result }
+    {
+        let j = first_alike(self.origins, quantifier, role, filler?)?;
+        Some(j as u8)
+    }
+
+    // The places of the restriction that has one quantifier plainly, and the other under a not.
+    fn of_restriction(
+        self,
+        plain: Quantifier,
+        negated: Quantifier,
+        role: Tree,
+        filler: Tree,
+    ) -> Pair
+        ensures { PairFor (parts_in role.entry.table.now self.entry.origins.now) plain negated (role_at role.entry) filler.entry result }
+    {
+        Pair {
+            plain: self.place(plain, role, plain_atom(filler)),
+            negated: self.place(negated, role, negated_atom(filler)),
         }
-        _ => 0,
+    }
+
+    // The places of a record, if that is a restriction.
+    fn of_record(self, table: &Table, number: u8) -> Pair
+        ensures { PlaceAt table.now (parts_in table.now self.entry.origins.now) number result }
+    {
+        let tree = Tree {
+            table,
+            number,
+            below: 256,
+        };
+        match tree.node() {
+            Some(Node::Exists(a, b)) => {
+                self.of_restriction(
+                    Quantifier::Exists,
+                    Quantifier::Forall,
+                    tree.operand(a),
+                    tree.operand(b),
+                )
+            }
+            Some(Node::Forall(a, b)) => {
+                self.of_restriction(
+                    Quantifier::Forall,
+                    Quantifier::Exists,
+                    tree.operand(a),
+                    tree.operand(b),
+                )
+            }
+            _ => Pair::default(),
+        }
     }
 }
 
-// Sets one place.
-fn put_place(place: &mut [u16], n: usize, v: u16)
-    requires { n < length place.old }
-    ensures { place.new ≡ set place.old n v }
-{
-    place[n] = v;
+// The places of all records, by their numbers.
+#[derive(Drop)]
+pub(crate) struct Places {
+    pairs: [Pair; 256],
 }
 
-// Notes the part of record r, read plainly and under a not, if that is a restriction.
-fn note(
-    table: &[u32; 255],
-    count: usize,
-    parts: &[u32; 20],
-    c: usize,
-    r: u8,
-    place: &mut [u16; 512],
-)
-    requires { (count ≤ 255) × (c ≤ 20) }
-    ensures { NotesOne (seen table.now count) parts.now c r place.old place.new }
-{
-    let k = record_at(table, count, r).kind;
-    if k < 0x07 {
-        return;
+impl Places {
+    pub(crate) fn of(table: &Table, parts: &[Origin]) -> Places
+        requires { length parts.now ≤ 20 }
+        ensures { PlacesOf table.now (parts_in table.now parts.now) result }
+    {
+        let known = Parts { origins: parts };
+        let mut pairs = [Pair::default(); 256];
+        for (r, pair) in pairs[..table.len()].iter_mut().enumerate() {
+            *pair = known.of_record(table, r as u8);
+        }
+        Places { pairs }
     }
-    if 0x08 < k {
-        return;
-    }
-    let i = (r as usize) << 1;
-    put_place(place, i, place_of(table, count, parts, c, r, false));
-    put_place(place, i + 1, place_of(table, count, parts, c, r, true));
-}
 
-// The parts of all records.
-pub(crate) fn places(
-    table: &[u32; 255],
-    count: usize,
-    parts: &[u32; 20],
-    c: usize,
-    place: &mut [u16; 512],
-)
-    requires { (count ≤ 255) × (c ≤ 20) }
-    ensures { PlacesOf (seen table.now count) parts.now c place.new }
-{
-    let mut r: u8 = 0;
-    while (r as usize) < count {
-        note(table, count, parts, c, r, place);
-        r = r + 1;
+    pub(crate) fn pair(&self, number: u8) -> Pair
+        ensures { result ≡ pair_at self.now.pairs number }
+    {
+        self.pairs[usize::from(number)]
     }
 }

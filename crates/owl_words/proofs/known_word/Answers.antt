@@ -1,28 +1,6 @@
-use mathlib.Core.Path.{sym, ◌∙◌}
-use Rattle.owl_words.specs.Words.{spelled, known_words, spelling, digits}
-use Rattle.output.specs.Text.{text}
+use Rattle.std.proofs.Common.{◌∙◌}
+use Rattle.owl_words.proofs.Tokening.{in_table}
 use Rattle.owl_words.proofs.known_word.Goals as goal
 
-pub returns-then-same : goal.returns-then-same
-unfolding spelled known_words spelling text digits
-returns-then-same c = rw (sym c.same.ensures ∙ c.if-same.true)
-
-pub returns-then-same-2 : goal.returns-then-same-2
-unfolding spelled known_words spelling text digits
-returns-then-same-2 c = rw (sym c.same.ensures ∙ c.if-same.false, sym c.same-2.ensures ∙ c.if-same-2.true)
-
-pub returns-then-same-3 : goal.returns-then-same-3
-unfolding spelled known_words spelling text digits
-returns-then-same-3 c = rw (sym c.same.ensures ∙ c.if-same.false, sym c.same-2.ensures ∙ c.if-same-2.false, sym c.same-3.ensures ∙ c.if-same-3.true)
-
-pub returns-then-same-4 : goal.returns-then-same-4
-unfolding spelled known_words spelling text digits
-returns-then-same-4 c = rw (sym c.same.ensures ∙ c.if-same.false, sym c.same-2.ensures ∙ c.if-same-2.false, sym c.same-3.ensures ∙ c.if-same-3.false, sym c.same-4.ensures ∙ c.if-same-4.true)
-
-pub returns-then-same-5 : goal.returns-then-same-5
-unfolding spelled known_words spelling text digits
-returns-then-same-5 c = rw (sym c.same.ensures ∙ c.if-same.false, sym c.same-2.ensures ∙ c.if-same-2.false, sym c.same-3.ensures ∙ c.if-same-3.false, sym c.same-4.ensures ∙ c.if-same-4.false, sym c.same-5.ensures ∙ c.if-same-5.true)
-
 pub returns : goal.returns
-unfolding spelled known_words spelling text digits
-returns c = rw (sym c.same.ensures ∙ c.if-same.false, sym c.same-2.ensures ∙ c.if-same-2.false, sym c.same-3.ensures ∙ c.if-same-3.false, sym c.same-4.ensures ∙ c.if-same-4.false, sym c.same-5.ensures ∙ c.if-same-5.false) c.lower_word.ensures
+returns c = c.lookup.ensures ∙ in_table _

@@ -1,6 +1,5 @@
 -- The invariant: scanning on from here gives the whole result. The measure is what is left of the sheet.
-use Prim.Native.Nat.{◌-◌}
-use lib.ListN.{length}
+use Rattle.std.proofs.Common.{◌-◌, length}
 use Rattle.records.proofs.Scanning.{Running}
 use Rattle.records.proofs.scan.Given as goal
 

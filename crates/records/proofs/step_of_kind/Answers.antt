@@ -1,23 +1,34 @@
-use mathlib.Core.Path.{refl, ap, ◌∙◌}
-use native.Mathlib.Omega.{arith}
-use Rattle.records.specs.Shapes.{shape_of}
-use Rattle.records.specs.RecordTable.{state_of}
-use Rattle.records.proofs.Faults.{unknown-kind, cut_off, of_body}
-use Rattle.records.proofs.KindTable.{sort_low}
-use Rattle.records.proofs.Scanning.{step-whole, step-body, step-next}
+use Rattle.std.proofs.Common.{refl, arith}
+use Rattle.std.proofs.lemmas.Result.{err_from_is_err_and}
+use Rattle.records.proofs.Telling.{sort_some}
+use Rattle.records.proofs.Scanning.{both-long, step-unknown, step-cut, step-body, step-none, step-next}
 use Rattle.records.proofs.step_of_kind.Goals as goal
 
-pub returns-then-s-eq0 : goal.returns-then-s-eq0
-returns-then-s-eq0 c = step-whole _ _ _ _ 0 (omega arith) (unknown-kind _ _ _ (c.shape_of-s.ensures ∙ ap shape_of c.requires.2) c.if-s-eq0.true)
+pub returns-in_default-clause-fault : goal.returns-in_default-clause-fault
+returns-in_default-clause-fault c = step-unknown _ _ _ _ _ c.requires.2 c.in_default.ensures _ refl c.at.ensures.0 c.at.ensures.1
 
-pub returns-then-left-s : goal.returns-then-left-s
-returns-then-left-s c = step-whole _ _ _ _ 1 (omega arith) (cut_off _ _ _ (c.shape_of-s.ensures ∙ ap shape_of c.requires.2) c.if-s-eq0.false c.if-left-s.true)
+pub returns-then-left-from-clause-fault : goal.returns-then-left-from-clause-fault
+returns-then-left-from-clause-fault c =
+    step-cut _ _ _ _ _ c.requires.2 c.in-Some.ensures _ (sort_some c.in-Some.shape.sort) (omega arith)
+    c.at-then-left-from.ensures.0 c.at-then-left-from.ensures.1
 
-pub returns-then-c-ne0 : goal.returns-then-c-ne0
-returns-then-c-ne0 c = step-body _ _ _ _ _ _ _ _ (c.shape_of-s.ensures ∙ ap shape_of c.requires.2) (of_body _ (state_of c.args.table.now c.args.p) _ (c.shape_of-s.ensures ∙ ap shape_of c.requires.2) c.if-s-eq0.false c.if-left-s.false _ _ _ c.body_byte-a.ensures c.body_byte-b.ensures refl) c.body_byte-a.ensures c.body_byte-b.ensures c.body_test-c.ensures c.if-c-ne0.true
+pub returns-in_err-check_body-clause-fault : goal.returns-in_err-check_body-clause-fault
+returns-in_err-check_body-clause-fault c =
+    let p = err_from_is_err_and c.from_residual.result c.from_residual.ensures.1 in
+    rw (p.1, p.2)
+    (step-body _ _ _ _ _ c.requires.2 c.in-Some.ensures (sort_some c.in-Some.shape.sort) (omega arith) _ _ c.body_byte-a.ensures c.body_byte-b.ensures _
+    c.in_err-check_body.ensures.fault)
 
-pub append-q-requires : goal.append-q-requires
-append-q-requires c = (omega arith, omega arith, sort_low _ c.shape_of-s.ensures)
+pub push-requires : goal.push-requires
+push-requires c = rw (c.in_ok-check_body.ensures.named, both-long _ _ _ _ _) c.requires.0
 
-pub returns : goal.returns
-returns c = step-next _ _ _ _ _ _ _ _ _ _ _ _ _ c.requires.2 c.shape_of-s.ensures (of_body _ (state_of c.args.table.now c.args.p) _ (c.shape_of-s.ensures ∙ ap shape_of c.requires.2) c.if-s-eq0.false c.if-left-s.false _ _ _ c.body_byte-a.ensures c.body_byte-b.ensures refl) c.if-c-ne0.false c.body_byte-a.ensures c.body_byte-b.ensures c.vacuous_of-v.ensures c.is_leaf.ensures c.body_test-c.ensures c.append-q.ensures
+pub returns-clause-fault : goal.returns-clause-fault
+returns-clause-fault c =
+    step-none _ _ _ _ _ c.requires.2 c.in-Some.ensures (sort_some c.in-Some.shape.sort) (omega arith) _ _ c.body_byte-a.ensures c.body_byte-b.ensures
+    c.in_ok-check_body.ensures.fault
+
+pub returns-clause-state : goal.returns-clause-state
+returns-clause-state c =
+    step-next _ _ _ _ _ c.requires.2 c.in-Some.ensures (sort_some c.in-Some.shape.sort) (omega arith) _ _ c.body_byte-a.ensures c.body_byte-b.ensures
+    _ _ _ _ _ c.in-Some-node_of.ensures c.in_ok-check_body.ensures.named c.vacuous_of-vacuous.ensures c.push.ensures c.after.ensures.at
+    c.after.ensures.names c.after.ensures.roles

@@ -1,16 +1,16 @@
 -- A refusal's line, or the three lines one after another.
-use Rattle.report.proofs.Putting.{puts_then}
-use Rattle.report.proofs.Reporting.{puts_refused, puts_judged}
+use Rattle.std.proofs.Common.{append_assoc}
+use Rattle.report.proofs.Reporting.{lines_refused, lines_judged}
 use Rattle.report.proofs.put_judged.Goals as goal
 
-pub returns-in-Refused : goal.returns-in-Refused
-returns-in-Refused c = let a = c.args in
-    puts_refused a.names a.roles a.parts a.answer _ _ c.in-Refused.is
-    c.put_refusal.ensures
+pub returns-in-Err : goal.returns-in-Err
+returns-in-Err g c =
+    let n = c.args.counts in
+    rw (c.put_refusal.ensures, c.in-Err.is, ← lines_refused n.names n.roles n.parts c.in-Err.refusal)
 
-pub returns-in-Judged : goal.returns-in-Judged
-returns-in-Judged c = let a = c.args in
-    let counts = c.put_counts-first.ensures.puts in
-    let sizes = c.put_sizes-second.ensures.puts in
-    puts_judged a.names a.roles a.parts a.answer _ _ _ c.in-Judged.is
-    (puts_then (puts_then counts sizes) c.put_verdict.ensures)
+pub returns-in-Ok : goal.returns-in-Ok
+returns-in-Ok g c =
+    let n = c.args.counts in
+    let j = c.in-Ok.judgement in
+    rw (c.put_verdict.ensures, c.is_met.ensures, c.put_sizes.ensures.puts, c.put_counts.ensures.puts, c.in-Ok.is, ← lines_judged n.names n.roles n.parts j)
+    (simp append_assoc)

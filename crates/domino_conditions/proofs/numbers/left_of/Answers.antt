@@ -6,4 +6,4 @@ use Rattle.domino_conditions.proofs.numbers.left_of.Goals as goal
 
 pub returns : goal.returns
 unfolding left_of
-returns c = ap (λ (x : ℕ). c.args.n / 2 ^ (x + c.args.c)) (twice c.args.l)
+returns c = ap (λ (x : ℕ). c.args.n / 2 ^ (x + c.args.size.parts)) (twice c.args.size.roles)

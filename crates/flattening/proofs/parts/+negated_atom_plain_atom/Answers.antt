@@ -1,47 +1,56 @@
--- Concept records by their kinds as fillers, read plainly and under a not.
-use mathlib.Core.Bool.{true, false}
-use native.Mathlib.Omega.{arith}
-use Rattle.flattening.proofs.NormalForms.{atom-past, atom_of_top, atom_of_name, atom_of_not, atom_of_compound, atom_of_none}
+-- Concepts by their nodes as fillers, read plainly and under a not.
+use Rattle.std.proofs.Common.{true, false, None, sym, ap, ◌∙◌}
+use Rattle.records.specs.declared.nodes.Node.TheVariants.{Everything, Name, Not}
+use Rattle.syntax.specs.Concepts.{node_of, concept_below}
+use Rattle.syntax.specs.Normal.{plain}
+use Rattle.syntax.specs.Flatten.{atom}
+use Rattle.flattening.proofs.NodeForms.{nf_says, atom_node, atom_compound, atom_rest}
 use Rattle.flattening.proofs.parts.+negated_atom_plain_atom.Goals as goal
 
-pub negated_atom-returns-then-below-i : goal.negated_atom-returns-then-below-i
-negated_atom-returns-then-below-i t c = (atom-past _ _ _ c.if-below-i.true).1
-
-pub negated_atom-returns-in-1 : goal.negated_atom-returns-in-1
-negated_atom-returns-in-1 t c = (atom_of_top _ _ _ _ c.if-below-i.false c.record_at-e.ensures c.in-1.is).1
-
-pub negated_atom-returns-in-3 : goal.negated_atom-returns-in-3
-negated_atom-returns-in-3 t c = (atom_of_name _ _ _ _ c.if-below-i.false c.record_at-e.ensures c.in-3.is (omega arith)).1
-
-pub negated_atom-returns-in-4 : goal.negated_atom-returns-in-4
-negated_atom-returns-in-4 t c = atom_of_not _ _ _ _ c.if-below-i.false c.record_at-e.ensures true _ c.in-4.is c.plain_atom.ensures
-
-pub negated_atom-returns-in-5-to-8 : goal.negated_atom-returns-in-5-to-8
-negated_atom-returns-in-5-to-8 t c = atom_of_compound _ _ _ _ c.if-below-i.false c.record_at-e.ensures true (omega arith) (omega arith)
-
 pub negated_atom-returns-in_default : goal.negated_atom-returns-in_default
-negated_atom-returns-in_default t c = (atom_of_none _ _ _ _ c.if-below-i.false c.record_at-e.ensures (λ q. omega arith) (λ q. omega arith) (λ l. omega arith)).1
+unfolding plain atom
+negated_atom-returns-in_default t c = ap atom (sym (nf_says _ _ _ true None c.in_default.ensures))
 
-pub negated_atom-returns-in_default-2 : goal.negated_atom-returns-in_default-2
-negated_atom-returns-in_default-2 t c = (atom_of_none _ _ _ _ c.if-below-i.false c.record_at-e.ensures (λ q. omega arith) (λ q. omega arith) (λ l. omega arith)).1
+pub negated_atom-returns-in-Everything : goal.negated_atom-returns-in-Everything
+unfolding node_of plain atom
+negated_atom-returns-in-Everything t c = atom_node _ _ _ true _ Everything c.in-Some.ensures c.in-Everything.is
 
-pub plain_atom-returns-then-below-i : goal.plain_atom-returns-then-below-i
-plain_atom-returns-then-below-i t c = (atom-past _ _ _ c.if-below-i.true).0
+pub negated_atom-returns-in-Name : goal.negated_atom-returns-in-Name
+unfolding node_of plain atom
+negated_atom-returns-in-Name t c = atom_node _ _ _ true _ (Name _) c.in-Some.ensures c.in-Name.is
 
-pub plain_atom-returns-in-1 : goal.plain_atom-returns-in-1
-plain_atom-returns-in-1 t c = (atom_of_top _ _ _ _ c.if-below-i.false c.record_at-e.ensures c.in-1.is).0
+pub negated_atom-returns-in-Not : goal.negated_atom-returns-in-Not
+unfolding node_of plain concept_below
+negated_atom-returns-in-Not t c = rw c.operand.ensures at c.plain_atom.ensures ∙ atom_node _ _ _ true _ (Not _) c.in-Some.ensures c.in-Not.is
 
-pub plain_atom-returns-in-3 : goal.plain_atom-returns-in-3
-plain_atom-returns-in-3 t c = (atom_of_name _ _ _ _ c.if-below-i.false c.record_at-e.ensures c.in-3.is (omega arith)).0
+pub negated_atom-returns-in-And : goal.negated_atom-returns-in-And
+negated_atom-returns-in-And t c = atom_compound _ _ _ true _ c.in-Some.ensures c.in-And.is
 
-pub plain_atom-returns-in-4 : goal.plain_atom-returns-in-4
-plain_atom-returns-in-4 t c = atom_of_not _ _ _ _ c.if-below-i.false c.record_at-e.ensures false _ c.in-4.is c.negated_atom.ensures
-
-pub plain_atom-returns-in-5-to-8 : goal.plain_atom-returns-in-5-to-8
-plain_atom-returns-in-5-to-8 t c = atom_of_compound _ _ _ _ c.if-below-i.false c.record_at-e.ensures false (omega arith) (omega arith)
+pub negated_atom-returns-in_default-node : goal.negated_atom-returns-in_default-node
+negated_atom-returns-in_default-node t c =
+    let w = c.in_default-node in
+    (atom_rest _ _ _ w.not-Not w.not-And w.not-Or w.not-Exists w.not-Forall _ c.in-Some.ensures w.not-Everything w.not-Name).1
 
 pub plain_atom-returns-in_default : goal.plain_atom-returns-in_default
-plain_atom-returns-in_default t c = (atom_of_none _ _ _ _ c.if-below-i.false c.record_at-e.ensures (λ q. omega arith) (λ q. omega arith) (λ l. omega arith)).0
+unfolding plain atom
+plain_atom-returns-in_default t c = ap atom (sym (nf_says _ _ _ false None c.in_default.ensures))
 
-pub plain_atom-returns-in_default-2 : goal.plain_atom-returns-in_default-2
-plain_atom-returns-in_default-2 t c = (atom_of_none _ _ _ _ c.if-below-i.false c.record_at-e.ensures (λ q. omega arith) (λ q. omega arith) (λ l. omega arith)).0
+pub plain_atom-returns-in-Everything : goal.plain_atom-returns-in-Everything
+unfolding node_of plain atom
+plain_atom-returns-in-Everything t c = atom_node _ _ _ false _ Everything c.in-Some.ensures c.in-Everything.is
+
+pub plain_atom-returns-in-Name : goal.plain_atom-returns-in-Name
+unfolding node_of plain atom
+plain_atom-returns-in-Name t c = atom_node _ _ _ false _ (Name _) c.in-Some.ensures c.in-Name.is
+
+pub plain_atom-returns-in-Not : goal.plain_atom-returns-in-Not
+unfolding node_of plain concept_below
+plain_atom-returns-in-Not t c = rw c.operand.ensures at c.negated_atom.ensures ∙ atom_node _ _ _ false _ (Not _) c.in-Some.ensures c.in-Not.is
+
+pub plain_atom-returns-in-And : goal.plain_atom-returns-in-And
+plain_atom-returns-in-And t c = atom_compound _ _ _ false _ c.in-Some.ensures c.in-And.is
+
+pub plain_atom-returns-in_default-node : goal.plain_atom-returns-in_default-node
+plain_atom-returns-in_default-node t c =
+    let w = c.in_default-node in
+    (atom_rest _ _ _ w.not-Not w.not-And w.not-Or w.not-Exists w.not-Forall _ c.in-Some.ensures w.not-Everything w.not-Name).0

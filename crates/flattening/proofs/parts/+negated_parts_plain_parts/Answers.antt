@@ -1,60 +1,80 @@
--- Concept records by their kinds and their parts, read plainly and under a not.
-use mathlib.Core.Bool.{true, false}
-use native.Mathlib.Omega.{arith}
-use Rattle.flattening.proofs.PartTables.{adds_same}
-use Rattle.flattening.proofs.NormalForms.{nf_not, nf_exists, nf_forall, adds_past, adds_two, adds_exists, adds_forall, adds_leaf}
+-- Concepts by their nodes, and the parts that they add, read plainly and under a not.
+use Rattle.std.proofs.Common.{true, false, refl}
+use Rattle.records.specs.declared.nodes.Node.TheVariants.{Not, Exists, Forall}
+use Rattle.syntax.specs.Concepts.{node_of, concept_below, role_below}
+use Rattle.syntax.specs.Normal.{plain}
+use Rattle.flattening.specs.declared.parts.Quantifier.TheVariants.{Exists as AnExists, Forall as AForall}
+use Rattle.flattening.proofs.NodeForms.{nf_node, walk-rest}
+use Rattle.flattening.proofs.PartLists.{adds_nothing, adds_same}
+use Rattle.flattening.proofs.Walks.{parts_by, walk-none, adds_two, adds_one, adds_restriction}
 use Rattle.flattening.proofs.parts.+negated_parts_plain_parts.Goals as goal
 
-pub negated_parts-returns-then-below-i : goal.negated_parts-returns-then-below-i
-negated_parts-returns-then-below-i t c = (adds_past _ _ _ _ _ _ c.if-below-i.true).1
-
-pub negated_parts-returns-in-4 : goal.negated_parts-returns-in-4
-negated_parts-returns-in-4 t c =
-    adds_same _ _ _ _ _ _ _ _ c.plain_parts.ensures (nf_not _ _ _ _ c.if-below-i.false c.record_at-e.ensures true c.in-4.is)
-
-pub negated_parts-returns-in-7 : goal.negated_parts-returns-in-7
-negated_parts-returns-in-7 t c =
-    adds_forall _ _ _ _ c.record_at-e.ensures (omega arith) (omega arith) (omega arith) true _ _ _ _ _ _ c.negated_atom-f.ensures
-    (nf_exists _ _ _ _ c.if-below-i.false c.record_at-e.ensures c.in-7.is).1 c.meet.ensures
-
-pub negated_parts-returns-in-8 : goal.negated_parts-returns-in-8
-negated_parts-returns-in-8 t c =
-    adds_exists _ _ _ _ c.record_at-e.ensures (omega arith) (omega arith) (omega arith) true _ _ _ _ _ _ c.negated_atom-f-in-8.ensures
-    (nf_forall _ _ _ _ c.if-below-i.false c.record_at-e.ensures c.in-8.is).1 c.meet-in-8.ensures
-
-pub negated_parts-returns-in-5-to-6 : goal.negated_parts-returns-in-5-to-6
-negated_parts-returns-in-5-to-6 t c =
-    adds_two _ _ _ _ _ c.if-below-i.false c.record_at-e.ensures true _ _ _ _ _ _ (omega arith) (omega arith) c.negated_parts-m.ensures c.negated_parts.ensures
-
 pub negated_parts-returns-in_default : goal.negated_parts-returns-in_default
-negated_parts-returns-in_default t c = (adds_leaf _ _ _ _ _ c.if-below-i.false c.record_at-e.ensures _ _ (λ l. omega arith)).1
+negated_parts-returns-in_default t c = adds_nothing _ (parts_by _) _ (walk-none _ _ _ c.in_default.ensures true _)
 
-pub negated_parts-returns-in_default-2 : goal.negated_parts-returns-in_default-2
-negated_parts-returns-in_default-2 t c = (adds_leaf _ _ _ _ _ c.if-below-i.false c.record_at-e.ensures _ _ (λ l. omega arith)).1
+pub negated_parts-returns-in-Not : goal.negated_parts-returns-in-Not
+unfolding node_of plain concept_below
+negated_parts-returns-in-Not t c =
+    adds_same _ _ _ _ _ _ (nf_node _ _ _ true _ (Not _) c.in-Some.ensures c.in-Not.is) (rw c.operand.ensures at c.plain_parts.ensures)
 
-pub plain_parts-returns-then-below-i : goal.plain_parts-returns-then-below-i
-plain_parts-returns-then-below-i t c = (adds_past _ _ _ _ _ _ c.if-below-i.true).0
+pub negated_parts-returns-in_err-negated_parts-in-And : goal.negated_parts-returns-in_err-negated_parts-in-And
+negated_parts-returns-in_err-negated_parts-in-And t c =
+    adds_one _ _ _ _ c.in-Some.ensures _ _ c.in-And.is true _ _ _ c.from_residual.ensures.0
+    (rw c.operand-in-And.ensures at c.in_err-negated_parts-in-And.ensures)
 
-pub plain_parts-returns-in-4 : goal.plain_parts-returns-in-4
-plain_parts-returns-in-4 t c =
-    adds_same _ _ _ _ _ _ _ _ c.negated_parts.ensures (nf_not _ _ _ _ c.if-below-i.false c.record_at-e.ensures false c.in-4.is)
+pub negated_parts-returns-in_ok-negated_parts-in-And : goal.negated_parts-returns-in_ok-negated_parts-in-And
+negated_parts-returns-in_ok-negated_parts-in-And t c =
+    adds_two _ _ _ _ c.in-Some.ensures _ _ c.in-And.is true _ _ _ _
+    (rw c.operand-in-And.ensures at c.in_ok-negated_parts-in-And.ensures) (rw c.operand-in-And-2.ensures at c.negated_parts-in-And.ensures)
 
-pub plain_parts-returns-in-7 : goal.plain_parts-returns-in-7
-plain_parts-returns-in-7 t c =
-    adds_exists _ _ _ _ c.record_at-e.ensures (omega arith) (omega arith) (omega arith) false _ _ _ _ _ _ c.plain_atom-f.ensures
-    (nf_exists _ _ _ _ c.if-below-i.false c.record_at-e.ensures c.in-7.is).0 c.meet.ensures
+pub negated_parts-returns-in-Exists : goal.negated_parts-returns-in-Exists
+unfolding node_of plain concept_below role_below
+negated_parts-returns-in-Exists t c =
+    adds_restriction _ _ _ _ c.in-Some.ensures true AForall _ _ _ _ _
+    (nf_node _ _ _ true _ (Exists _ _) c.in-Some.ensures c.in-Exists.is) (rw c.in-Exists.is refl) c.meet.ensures
 
-pub plain_parts-returns-in-8 : goal.plain_parts-returns-in-8
-plain_parts-returns-in-8 t c =
-    adds_forall _ _ _ _ c.record_at-e.ensures (omega arith) (omega arith) (omega arith) false _ _ _ _ _ _ c.plain_atom-f-in-8.ensures
-    (nf_forall _ _ _ _ c.if-below-i.false c.record_at-e.ensures c.in-8.is).0 c.meet-in-8.ensures
+pub negated_parts-returns-in-Forall : goal.negated_parts-returns-in-Forall
+unfolding node_of plain concept_below role_below
+negated_parts-returns-in-Forall t c =
+    adds_restriction _ _ _ _ c.in-Some.ensures true AnExists _ _ _ _ _
+    (nf_node _ _ _ true _ (Forall _ _) c.in-Some.ensures c.in-Forall.is) (rw c.in-Forall.is refl) c.meet-in-Forall.ensures
 
-pub plain_parts-returns-in-5-to-6 : goal.plain_parts-returns-in-5-to-6
-plain_parts-returns-in-5-to-6 t c =
-    adds_two _ _ _ _ _ c.if-below-i.false c.record_at-e.ensures false _ _ _ _ _ _ (omega arith) (omega arith) c.plain_parts-m.ensures c.plain_parts.ensures
+pub negated_parts-returns-in_default-node : goal.negated_parts-returns-in_default-node
+negated_parts-returns-in_default-node t c =
+    let w = c.in_default-node in
+    adds_nothing _ (parts_by _) _ (walk-rest _ _ _ w.not-Not w.not-And w.not-Or w.not-Exists w.not-Forall _ c.in-Some.ensures true _)
 
 pub plain_parts-returns-in_default : goal.plain_parts-returns-in_default
-plain_parts-returns-in_default t c = (adds_leaf _ _ _ _ _ c.if-below-i.false c.record_at-e.ensures _ _ (λ l. omega arith)).0
+plain_parts-returns-in_default t c = adds_nothing _ (parts_by _) _ (walk-none _ _ _ c.in_default.ensures false _)
 
-pub plain_parts-returns-in_default-2 : goal.plain_parts-returns-in_default-2
-plain_parts-returns-in_default-2 t c = (adds_leaf _ _ _ _ _ c.if-below-i.false c.record_at-e.ensures _ _ (λ l. omega arith)).0
+pub plain_parts-returns-in-Not : goal.plain_parts-returns-in-Not
+unfolding node_of plain concept_below
+plain_parts-returns-in-Not t c =
+    adds_same _ _ _ _ _ _ (nf_node _ _ _ false _ (Not _) c.in-Some.ensures c.in-Not.is) (rw c.operand.ensures at c.negated_parts.ensures)
+
+pub plain_parts-returns-in_err-plain_parts-in-And : goal.plain_parts-returns-in_err-plain_parts-in-And
+plain_parts-returns-in_err-plain_parts-in-And t c =
+    adds_one _ _ _ _ c.in-Some.ensures _ _ c.in-And.is false _ _ _ c.from_residual.ensures.0
+    (rw c.operand-in-And.ensures at c.in_err-plain_parts-in-And.ensures)
+
+pub plain_parts-returns-in_ok-plain_parts-in-And : goal.plain_parts-returns-in_ok-plain_parts-in-And
+plain_parts-returns-in_ok-plain_parts-in-And t c =
+    adds_two _ _ _ _ c.in-Some.ensures _ _ c.in-And.is false _ _ _ _
+    (rw c.operand-in-And.ensures at c.in_ok-plain_parts-in-And.ensures) (rw c.operand-in-And-2.ensures at c.plain_parts-in-And.ensures)
+
+pub plain_parts-returns-in-Exists : goal.plain_parts-returns-in-Exists
+unfolding node_of plain concept_below role_below
+plain_parts-returns-in-Exists t c =
+    adds_restriction _ _ _ _ c.in-Some.ensures false AnExists _ _ _ _ _
+    (nf_node _ _ _ false _ (Exists _ _) c.in-Some.ensures c.in-Exists.is) (rw c.in-Exists.is refl) c.meet.ensures
+
+pub plain_parts-returns-in-Forall : goal.plain_parts-returns-in-Forall
+unfolding node_of plain concept_below role_below
+plain_parts-returns-in-Forall t c =
+    adds_restriction _ _ _ _ c.in-Some.ensures false AForall _ _ _ _ _
+    (nf_node _ _ _ false _ (Forall _ _) c.in-Some.ensures c.in-Forall.is) (rw c.in-Forall.is refl) c.meet-in-Forall.ensures
+
+pub plain_parts-returns-in_default-node : goal.plain_parts-returns-in_default-node
+plain_parts-returns-in_default-node t c =
+    let w = c.in_default-node in
+    adds_nothing _ (parts_by _) _ (walk-rest _ _ _ w.not-Not w.not-And w.not-Or w.not-Exists w.not-Forall _ c.in-Some.ensures false _)

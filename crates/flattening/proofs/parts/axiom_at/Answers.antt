@@ -1,12 +1,19 @@
 -- An axiom is (not left) or right; any other record puts nothing on the queue.
-use Rattle.flattening.proofs.PartTables.{adds_or}
-use Rattle.flattening.proofs.QueueParts.{axiom_turn_lem, axiom_quiet, adds_all_same, adds_nothing, adds_whole}
+use Rattle.flattening.proofs.QueueParts.{axiom_past, axiom_other, axiom_adds, axiom_over}
 use Rattle.flattening.proofs.parts.axiom_at.Goals as goal
 
-pub returns-then-k-eq32 : goal.returns-then-k-eq32
-returns-then-k-eq32 c =
-    adds_all_same _ _ _ _ _ _ _ _ (adds_whole _ _ _ _ _ _ _ (adds_or _ _ _ _ _ _ _ _ _ _ c.negated_parts-m.ensures c.plain_parts.ensures))
-    (axiom_turn_lem _ _ _ c.record_at-e.ensures c.if-k-eq32.true)
+pub returns-in_default : goal.returns-in_default
+returns-in_default c = axiom_past _ _ _ c.in_default.ensures
+
+pub returns-in_default-node : goal.returns-in_default-node
+returns-in_default-node c = axiom_other _ _ _ _ c.in-Some.ensures c.in_default-node.not-Axiom
+
+pub returns-in_err-negated_parts : goal.returns-in_err-negated_parts
+returns-in_err-negated_parts c =
+    axiom_over _ _ _ _ c.in-Some.ensures _ _ c.in-Axiom.is _ _ c.from_residual.ensures.0
+    (rw c.operand.ensures at c.in_err-negated_parts.ensures)
 
 pub returns : goal.returns
-returns c = adds_all_same _ _ _ _ _ _ _ _ (adds_nothing _ _ _ _) (axiom_quiet _ _ _ c.record_at-e.ensures c.if-k-eq32.false)
+returns c =
+    axiom_adds _ _ _ _ c.in-Some.ensures _ _ c.in-Axiom.is _ _ _
+    (rw c.operand.ensures at c.in_ok-negated_parts.ensures) (rw c.operand-2.ensures at c.plain_parts.ensures)

@@ -1,22 +1,16 @@
 -- The invariant: the axioms of the records before i are gone through.
-use mathlib.Core.Path.{sym}
-use native.Mathlib.Omega.{arith}
-use Rattle.syntax.specs.Concepts.{nodes_of, axioms_of}
-use Rattle.syntax.specs.Flatten.{pendings}
-use Rattle.records.specs.RecordTable.{seen}
-use Rattle.records.proofs.Entries.{seen-short}
-use Rattle.flattening.proofs.CodeOrder.{pendings-step}
-use Rattle.flattening.proofs.QueueParts.{adds_all_same, adds_nothing, adds_append, pendings-all}
+use Rattle.std.proofs.Common.{arith}
+use Rattle.flattening.proofs.QueueParts.{axioms_none, axioms_more, axioms_over, axioms_all}
 use Rattle.flattening.proofs.parts.axiom_parts.Goals as goal
 
 pub loop-i-init : goal.loop-i-init
-unfolding axioms_of pendings
-loop-i-init c = (omega arith, adds_nothing _ _ _ _)
+loop-i-init c = axioms_none _ _
+
+pub returns-in_err-axiom_at : goal.returns-in_err-axiom_at
+returns-in_err-axiom_at c = axioms_over _ _ _ _ c.loop-i.invariant _ _ c.from_residual.ensures.0 c.in_err-axiom_at.ensures
 
 pub loop-i-preserved : goal.loop-i-preserved
-loop-i-preserved c = let args = c.args in
-    let at = c.loop-i in
-    (omega arith, adds_all_same _ _ _ _ _ _ _ _ (adds_append _ _ _ _ _ _ _ _ _ _ at.invariant.1 c.axiom_at-m.ensures) (pendings-step (nodes_of (seen args.table.now args.count)) at.i))
+loop-i-preserved c = axioms_more _ _ _ _ c.loop-i.invariant _ c.in_ok-axiom_at.ensures
 
 pub returns : goal.returns
-returns c = adds_all_same _ _ _ _ _ _ _ _ c.loop-i.invariant.1 (sym (pendings-all _ _ (seen-short _ _ _ c.loop-i-test.false)))
+returns c = axioms_all _ _ _ (omega (arith, c.len-i-end.ensures.value, c.loop-i-test.false)) _ c.loop-i.invariant

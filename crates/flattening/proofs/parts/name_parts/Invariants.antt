@@ -1,14 +1,13 @@
--- The invariant: the table holds the parts of the first n names.
-use Prim.Native.Nat.{◌+◌, ◌≤◌, ◌-◌}
-use mathlib.Core.Path.{◌≡◌}
-use mathlib.Core.List.{List}
-use Rattle.records.specs.declared.Entry.{Entry}
+-- The invariant: the parts are the first i names.
+use Rattle.std.proofs.Common.{◌≡◌, ◌≤◌, List, length}
+use Rattle.records.specs.Entries.{Entry}
 use Rattle.syntax.specs.Flatten.{name_parts_lem}
-use Rattle.flattening.specs.PartTable.{Held}
+use Rattle.flattening.specs.Origins.{parts_in}
 use Rattle.flattening.proofs.parts.name_parts.Given as goal
 
-abbrev pub invariant-loop-n : goal.invariant-loop-n
-invariant-loop-n l = (l.i ≡ l.n) × (l.n ≤ l.names) × (l.n ≤ l.limit + 1) × ((es : List Entry) → Held l.limit es l.parts l.n (name_parts_lem l.n))
-
-abbrev pub decreases-loop-n : goal.decreases-loop-n
-decreases-loop-n l = l.limit + 1 - l.n
+abbrev pub invariant-loop-i : goal.invariant-loop-i
+invariant-loop-i l = record {
+  size : length l.parts.items ≡ l.i;
+  room : l.i ≤ 20;
+  names : (es : List Entry) → parts_in es l.parts.items ≡ name_parts_lem l.i;
+}

@@ -1,14 +1,13 @@
--- A fresh part's word says how its filler is read; any other part puts nothing on the queue.
-use mathlib.Core.Bool.{true, false}
-use Rattle.records.proofs.Entries.{seen_most}
-use Rattle.flattening.proofs.QueueParts.{turn-fresh, turn_quiet, adds_all_same, adds_nothing, adds_guarded}
+-- A fresh part's filler is read plainly or under a not; any other part puts nothing on the queue.
+use Rattle.std.proofs.Common.{true, false, refl}
+use Rattle.flattening.proofs.QueueParts.{turn_nothing, turn_adds}
 use Rattle.flattening.proofs.parts.turn.Goals as goal
 
-pub returns-then-word-eq1 : goal.returns-then-word-eq1
-returns-then-word-eq1 c = λ j p s. adds_all_same _ _ _ _ _ _ _ _ (adds_guarded _ _ _ _ _ _ _ _ c.plain_parts.ensures) (turn-fresh _ _ _ _ false p (seen_most _ _) s c.if-word-eq1.true)
+pub returns-in_default : goal.returns-in_default
+returns-in_default c = turn_nothing _ _ _ c.in_default.not-Fresh _ refl
 
-pub returns-then-word-eq5 : goal.returns-then-word-eq5
-returns-then-word-eq5 c = λ j p s. adds_all_same _ _ _ _ _ _ _ _ (adds_guarded _ _ _ _ _ _ _ _ c.negated_parts.ensures) (turn-fresh _ _ _ _ true p (seen_most _ _) s c.if-word-eq5.true)
+pub returns-then-source : goal.returns-then-source
+returns-then-source c = turn_adds _ _ _ _ c.in-Fresh.is true c.if-source.true _ _ (rw c.len.ensures.value at c.negated_parts.ensures)
 
 pub returns : goal.returns
-returns c = λ j p s. adds_all_same _ _ _ _ _ _ _ _ (adds_nothing _ _ _ _) (turn_quiet _ _ _ p s c.if-word-eq1.false c.if-word-eq5.false)
+returns c = turn_adds _ _ _ _ c.in-Fresh.is false c.if-source.false _ _ (rw c.len.ensures.value at c.plain_parts.ensures)

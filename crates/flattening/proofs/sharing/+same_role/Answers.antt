@@ -1,25 +1,68 @@
--- Two roles by their kinds.
-use mathlib.Core.Path.{refl}
-use native.Mathlib.Omega.{arith}
-use Rattle.flattening.proofs.RoleTrees.{records_same, roles_apart, leaves_same, nots_same, twos_same}
+-- Two roles by their outermost records.
+use Rattle.std.proofs.Common.{sym, ◌∙◌}
+use Rattle.syntax.specs.Concepts.{named, inverse, not_r, and_r, or_r}
+use Rattle.flattening.proofs.RoleTrees.{records_same, outer_is, unlike, leaf_same, not_same, both_then, both_else}
 use Rattle.flattening.proofs.sharing.+same_role.Goals as goal
 
 pub returns-then-same_record : goal.returns-then-same_record
-returns-then-same_record t c = records_same _ _ _ _ _ (c.same_record.ensures c.if-same_record.true)
+returns-then-same_record t c = records_same c.args.x c.args.y c.requires (c.same_record.ensures c.if-same_record.true)
 
-pub returns-then-k-y : goal.returns-then-k-y
-returns-then-k-y t c = roles_apart _ _ _ _ _ _ _ c.outer_role-x.ensures c.outer_role-y.ensures c.if-k-y.true
+pub returns-in-Role-Role : goal.returns-in-Role-Role
+returns-in-Role-Role t c = leaf_same _ _ named (λ m n e. cc) _ _ c.in-Role-Role.ensures c.in-Role-Role.ensures'
 
-pub returns-then-k-le17 : goal.returns-then-k-le17
-returns-then-k-le17 t c = leaves_same _ _ _ _ _ _ _ c.outer_role-x.ensures c.outer_role-y.ensures c.if-k-y.false c.if-k-le17.true
+pub returns-in-Inverse-Inverse : goal.returns-in-Inverse-Inverse
+returns-in-Inverse-Inverse t c = leaf_same _ _ inverse (λ m n e. cc) _ _ c.in-Inverse-Inverse.ensures c.in-Inverse-Inverse.ensures'
 
-pub returns-then-k-eq18 : goal.returns-then-k-eq18
-returns-then-k-eq18 t c = nots_same _ _ _ _ _ _ _ c.outer_role-x.ensures c.outer_role-y.ensures c.if-k-y.false _ c.same_role-first.ensures c.if-k-eq18.true
+pub returns-in-RoleNot-RoleNot : goal.returns-in-RoleNot-RoleNot
+returns-in-RoleNot-RoleNot t c =
+    let w = c.in-RoleNot-RoleNot in
+    not_same _ _ _ _ w.ensures.1 w.ensures'.1 _ (rw (c.operand.ensures, c.operand-in-RoleNot-RoleNot.ensures) at c.same_role.ensures)
 
-pub returns-then-first : goal.returns-then-first
-returns-then-first t c =
-    rw c.if-first.true at (twos_same _ _ _ _ _ _ _ c.outer_role-x.ensures c.outer_role-y.ensures c.if-k-y.false _ c.same_role-first.ensures (omega arith) c.if-k-eq18.false _ c.same_role.ensures)
+pub returns-then-same_role : goal.returns-then-same_role
+returns-then-same_role t c =
+    let w = c.in-RoleAnd-RoleAnd in
+    both_then _ _ and_r (λ a c b d e. (cc, cc)) _ _ _ _ w.ensures.1 w.ensures'.1 _
+    (rw (c.operand-in-RoleAnd-RoleAnd.ensures, c.operand-in-RoleAnd-RoleAnd-2.ensures) at c.same_role-in-RoleAnd-RoleAnd.ensures) c.if-same_role.true
+    _ (rw (c.operand-then-same_role.ensures, c.operand-then-same_role-2.ensures) at c.same_role-then-same_role.ensures)
 
-pub returns : goal.returns
-returns t c =
-    rw c.if-first.false at (twos_same _ _ _ _ _ _ _ c.outer_role-x.ensures c.outer_role-y.ensures c.if-k-y.false _ c.same_role-first.ensures (omega arith) c.if-k-eq18.false _ refl)
+pub returns-else-same_role : goal.returns-else-same_role
+returns-else-same_role t c =
+    let w = c.in-RoleAnd-RoleAnd in
+    both_else _ _ and_r (λ a c b d e. (cc, cc)) _ _ _ _ w.ensures.1 w.ensures'.1 _
+    (rw (c.operand-in-RoleAnd-RoleAnd.ensures, c.operand-in-RoleAnd-RoleAnd-2.ensures) at c.same_role-in-RoleAnd-RoleAnd.ensures) c.if-same_role.false
+
+pub returns-then-same_role-2 : goal.returns-then-same_role-2
+returns-then-same_role-2 t c =
+    let w = c.in-RoleOr-RoleOr in
+    both_then _ _ or_r (λ a c b d e. (cc, cc)) _ _ _ _ w.ensures.1 w.ensures'.1 _
+    (rw (c.operand-in-RoleOr-RoleOr.ensures, c.operand-in-RoleOr-RoleOr-2.ensures) at c.same_role-in-RoleOr-RoleOr.ensures) c.if-same_role-2.true
+    _ (rw (c.operand-then-same_role-2-2.ensures, c.operand-then-same_role-2-3.ensures) at c.same_role-then-same_role-2.ensures)
+
+pub returns-else-same_role-2 : goal.returns-else-same_role-2
+returns-else-same_role-2 t c =
+    let w = c.in-RoleOr-RoleOr in
+    both_else _ _ or_r (λ a c b d e. (cc, cc)) _ _ _ _ w.ensures.1 w.ensures'.1 _
+    (rw (c.operand-in-RoleOr-RoleOr.ensures, c.operand-in-RoleOr-RoleOr-2.ensures) at c.same_role-in-RoleOr-RoleOr.ensures) c.if-same_role-2.false
+
+pub returns-in_default : goal.returns-in_default
+returns-in_default t c =
+    unlike _ _ (λ e. c.in_default.not-Role-1 _ (outer_is c.args.y _ (named _) c.outer_role-2.ensures (sym e ∙ c.in_default.ensures)))
+
+pub returns-in_default-2 : goal.returns-in_default-2
+returns-in_default-2 t c =
+    unlike _ _ (λ e. c.in_default.not-Inverse-1 _ (outer_is c.args.y _ (inverse _) c.outer_role-2.ensures (sym e ∙ c.in_default.ensures)))
+
+pub returns-in_default-3 : goal.returns-in_default-3
+returns-in_default-3 t c =
+    unlike _ _ (λ e. let w = outer_is c.args.y _ (not_r _) c.outer_role-2.ensures (sym e ∙ c.in_default.ensures.1) in
+    c.in_default.not-RoleNot-1 _ w.1)
+
+pub returns-in_default-4 : goal.returns-in_default-4
+returns-in_default-4 t c =
+    unlike _ _ (λ e. let w = outer_is c.args.y _ (and_r _ _) c.outer_role-2.ensures (sym e ∙ c.in_default.ensures.1) in
+    c.in_default.not-RoleAnd-1 _ _ w.2)
+
+pub returns-in_default-5 : goal.returns-in_default-5
+returns-in_default-5 t c =
+    unlike _ _ (λ e. let w = outer_is c.args.y _ (or_r _ _) c.outer_role-2.ensures (sym e ∙ c.in_default.ensures.1) in
+    c.in_default.not-RoleOr-1 _ _ w.2)

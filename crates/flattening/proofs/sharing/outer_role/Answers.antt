@@ -1,16 +1,16 @@
--- A role record, or none.
-use native.Mathlib.Omega.{arith}
-use Rattle.flattening.proofs.RoleTrees.{outer_past, outer_role_lem, outer_none}
+-- A role by its node, or none.
+use Rattle.std.proofs.Common.{None}
+use Rattle.flattening.proofs.NodeForms.{role_says}
+use Rattle.flattening.proofs.RoleTrees.{outer_node, outer_rest}
 use Rattle.flattening.proofs.sharing.outer_role.Goals as goal
 
-pub returns-then-below-i : goal.returns-then-below-i
-returns-then-below-i c = rw c.no_role.ensures (outer_past _ _ _ c.if-below-i.true)
+pub returns-in_default : goal.returns-in_default
+returns-in_default c = role_says _ _ _ None c.in_default.ensures
 
-pub returns-then-k-lt16 : goal.returns-then-k-lt16
-returns-then-k-lt16 c = rw c.no_role-then-k-lt16.ensures (outer_none _ _ _ _ c.if-below-i.false c.record_at-e.ensures (λ l. omega arith))
+pub returns-in-Role : goal.returns-in-Role
+returns-in-Role c = outer_node c.args.tree _ c.in-Some.ensures c.in-Role.is
 
-pub returns-then-k-gt20 : goal.returns-then-k-gt20
-returns-then-k-gt20 c = rw c.no_role-then-k-gt20.ensures (outer_none _ _ _ _ c.if-below-i.false c.record_at-e.ensures (λ l. omega arith))
-
-pub returns : goal.returns
-returns c = outer_role_lem _ _ _ _ c.if-below-i.false c.record_at-e.ensures (omega arith) (omega arith)
+pub returns-in_default-node : goal.returns-in_default-node
+returns-in_default-node c =
+    let w = c.in_default-node in
+    outer_rest c.args.tree _ c.in-Some.ensures w.not-Role w.not-Inverse w.not-RoleNot w.not-RoleAnd w.not-RoleOr

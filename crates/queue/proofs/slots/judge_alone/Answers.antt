@@ -2,13 +2,11 @@
 use Rattle.queue.proofs.Cases.{alone-refused, alone-met, alone-unmet}
 use Rattle.queue.proofs.slots.judge_alone.Goals as goal
 
-pub returns-in-Refused : goal.returns-in-Refused
-returns-in-Refused c = alone-refused _ _ _ _ c.requires c.judge-answer.ensures _ _ c.in-Refused.is
+pub returns-in-Err : goal.returns-in-Err
+returns-in-Err c = rw c.number.ensures (alone-refused _ _ _ _ c.told-set c.judge.ensures _ c.in-Err.is)
 
-pub returns-then-met : goal.returns-then-met
-returns-then-met c = let judged = c.judge-answer.ensures in
-    alone-met _ _ _ _ c.requires judged _ _ _ c.in-Judged.is c.if-met.true
+pub returns-then-is_met : goal.returns-then-is_met
+returns-then-is_met c = alone-met _ _ _ _ c.told-set c.judge.ensures _ _ c.in-Ok.is c.is_met.ensures c.if-is_met.true
 
-pub returns-else-met : goal.returns-else-met
-returns-else-met c = let judged = c.judge-answer.ensures in
-    alone-unmet _ _ _ _ c.requires judged _ _ _ c.in-Judged.is c.if-met.false
+pub returns-else-is_met : goal.returns-else-is_met
+returns-else-is_met c = alone-unmet _ _ _ _ c.told-set c.judge.ensures _ _ c.in-Ok.is c.is_met.ensures c.if-is_met.false

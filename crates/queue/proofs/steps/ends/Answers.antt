@@ -1,12 +1,10 @@
 -- The kind at the front, if there is any byte.
-use mathlib.Core.Path.{refl, sym}
-use Rattle.queue.specs.Queue.{end_first}
-use Rattle.queue.proofs.Fitting.{ends-none}
+use Rattle.std.specs.Prelude.{Some, None}
+use Rattle.queue.proofs.Fitting.{ends_front}
 use Rattle.queue.proofs.steps.ends.Goals as goal
 
-pub returns-then-input-eq0 : goal.returns-then-input-eq0
-returns-then-input-eq0 c = sym (ends-none _ c.if-input-eq0.true)
+pub returns-in-Some : goal.returns-in-Some
+returns-in-Some c = ends_front (Some c.in-Some.kind) c.args.input.now c.in-Some.kind.ref_ptr c.in-Some.ensures.value
 
-pub returns : goal.returns
-unfolding end_first
-returns c = refl
+pub returns-in-None : goal.returns-in-None
+returns-in-None c = ends_front None c.args.input.now c.args.input.ref_ptr c.in-None.ensures.value

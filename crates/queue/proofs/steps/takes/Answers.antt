@@ -1,15 +1,14 @@
 -- Slots so far, then the length, then the kind.
-use mathlib.Core.Path.{sym}
-use Rattle.queue.proofs.Fitting.{takes_late, takes-short, takes_whole}
-use native.Mathlib.Omega.{arith}
+use mathlib.Core.Path.{sym, ap}
+use Rattle.std.proofs.Common.{arith}
+use Rattle.queue.specs.Queue.{Sums}
+use Rattle.queue.proofs.Fitting.{takes_whole, takes_nothing}
 use Rattle.queue.proofs.steps.takes.Goals as goal
 
-pub returns-then-t-ge4096 : goal.returns-then-t-ge4096
-returns-then-t-ge4096 c = sym (takes_late c.args.t _ c.if-t-ge4096.true)
+pub returns-then-input-ge-WHOLE : goal.returns-then-input-ge-WHOLE
+returns-then-input-ge-WHOLE c = let come = c.if-input-ge-WHOLE.true in rw (← c.t.view_is) (sym (takes_whole _ _ come.0 come.1))
 
-pub returns-then-input-lt768 : goal.returns-then-input-lt768
-returns-then-input-lt768 c = sym (takes-short c.args.t _ (omega (arith, c.if-input-lt768.true)))
-
-pub returns : goal.returns
-returns c = let t = c.args.t in
-    sym (takes_whole t _ (omega (arith, c.if-t-ge4096.false)) (omega (arith, c.if-input-lt768.false)))
+pub returns-else-input-ge-WHOLE : goal.returns-else-input-ge-WHOLE
+returns-else-input-ge-WHOLE c =
+    let few = ap (λ (s : Sums). s.sheets) c.t.view_is in
+    grind (arith, takes_nothing c.args.t c.args.input.now (rw few at c.if-input-ge-WHOLE.either))

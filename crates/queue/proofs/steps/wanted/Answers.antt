@@ -1,16 +1,17 @@
 -- A slot that may come, or a kind alone.
+use mathlib.Core.Logic.{inl, inr}
 use borrow.Author.Tests.{eq-eqb, ne_eqb, lt-ltb, le-ltb}
 use Rattle.queue.specs.Steps.{wanted}
 use Rattle.queue.proofs.steps.wanted.Goals as goal
 
-pub returns-then-kind-ne48 : goal.returns-then-kind-ne48
+pub returns-then-sheets-lt-MOST : goal.returns-then-sheets-lt-MOST
 unfolding wanted
-returns-then-kind-ne48 c = simp (ne_eqb _ _ c.if-kind-ne48.true)
+returns-then-sheets-lt-MOST c = simp (eq-eqb _ _ c.if-kind-eq-SLOT.true, lt-ltb _ _ c.if-sheets-lt-MOST.true)
 
-pub returns-then-sheets-lt4096 : goal.returns-then-sheets-lt4096
+pub returns-else-kind-eq-SLOT : goal.returns-else-kind-eq-SLOT
 unfolding wanted
-returns-then-sheets-lt4096 c = simp (eq-eqb _ _ c.if-kind-ne48.false, lt-ltb _ _ c.if-sheets-lt4096.true)
-
-pub returns : goal.returns
-unfolding wanted
-returns c = simp (eq-eqb _ _ c.if-kind-ne48.false, le-ltb _ _ c.if-sheets-lt4096.false)
+returns-else-kind-eq-SLOT c =
+    elim c.else-kind-eq-SLOT.either [
+      | inl h ↦ simp (eq-eqb _ _ h.0, le-ltb _ _ h.1)
+      | inr h ↦ simp (ne_eqb _ _ h)
+    ]

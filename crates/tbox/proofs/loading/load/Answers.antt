@@ -1,0 +1,8 @@
+-- A sheet that is refused, or what is held of each part.
+use Rattle.std.proofs.Common.{refl}
+use Rattle.tbox.proofs.BaseTables.{loads_whole}
+use Rattle.tbox.proofs.loading.load.Goals as goal
+
+pub returns : goal.returns
+returns c = loads_whole _ _ _ c.in_ok-admitted.ensures _ refl refl c.len.ensures.value
+    (rw c.deref.ensures.0 at c.parts_of.ensures) (rw c.deref-2.ensures.0 at c.good_words.ensures)
