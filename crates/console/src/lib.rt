@@ -15,6 +15,7 @@ use std::io::{Print, Read, Stderr, Stdout};
 pub struct Printed<const N: usize> {
     text: ArrayVec<u8, N>,
     // Did the system take all of it?
+    // A flag and no `Result`: the text was handed over in both cases.
     pub whole: bool,
 }
 

@@ -25,7 +25,7 @@ pub enum Verdict {
     Kept,
 }
 
-// A verdict beside the domino's number.
+// A verdict beside the domino's number: the struct with a verdict enum that document 01 asks for.
 #[derive(Clone, Copy, PartialEq, Eq)]
 pub struct Outcome {
     pub number: usize,
@@ -44,6 +44,7 @@ fn load_for(sheet: &[u8], words: usize) -> Result<Base, Refusal>
 }
 
 // Writes the initial set and answers its size.
+// Four calls, and no one that takes the step as a closure: each is a call of the interface, with its own contract.
 pub fn open(sheet: &[u8], set: &mut [u64]) -> Result<u64, Refusal>
     ensures { Opens (read_kb limit sheet.now) set.old set.new result }
 {

@@ -20,6 +20,7 @@ pub enum Condition {
 }
 
 impl Condition {
+    // A method and no `From`: a call says which number is meant.
     pub fn number(self) -> u8
         ensures { result ≡ condition_number self }
     {
@@ -27,6 +28,7 @@ impl Condition {
     }
 }
 
+// k < 64 is asked of a number from `enumerate`: a type for it would be made at each step of three loops.
 fn part_in_label(label: usize, k: usize) -> bool
     requires { k < 64 }
     ensures { result ≡ bit label k }
@@ -161,6 +163,7 @@ impl DominoSet<'_> {
     }
 
     // Conditions 4 (Exists) and 5 (Forall) of the left label a: each part that wants a witness has one.
+    // The left label is no field: a struct of set and label would be one more, for `has_witness` and its two callers alone.
     fn witnessed(&self, quantifier: Quantifier, a: usize) -> bool
         requires { IsLabel self.now a }
         ensures { result ≡ witnessed (view_of self.now) (wants quantifier) (dominoes_of self.now) a }

@@ -39,6 +39,7 @@ pub fn dominoes(size: Size) -> usize
 }
 
 // The number of the domino (a, r, b).
+// a, r and b stay three numbers: a loop makes one of them at a time, and a struct would be built for each domino.
 pub fn index(size: Size, a: usize, r: usize, b: usize) -> usize
     requires { Domino size.parts size.roles a r b }
     ensures { result ≡ number size.parts size.roles a r b }

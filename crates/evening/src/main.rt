@@ -12,7 +12,7 @@ use std::io;
 use std::io::{Read, Stdout};
 
 // Reads the sheet, as much of the input as a sheet may have and one byte more.
-// The length is a clause, not `[u8; 766]`, so that a buffer for more bytes fails a proof and not only a type (`more_read`).
+// The length is a clause, not `[u8; 766]`, so that a buffer for more bytes fails a proof and not only a type.
 fn read_sheet<'a, R: Read>(from: &mut R, buffer: &'a mut [u8]) -> io::Result<&'a [u8]>
     requires { length buffer.old ≡ most }
     ensures { IfOk result (λ sheet. length sheet.now ≤ most) }

@@ -27,6 +27,7 @@ pub enum Quantifier {
 }
 
 // The record of a restriction, whether that is read under an odd number of nots, and the record of its filler.
+// `odd` is a truth value, as in the definitions and in the third byte that is listed.
 #[derive(Clone, Copy, PartialEq, Eq)]
 pub struct Source {
     pub number: u8,
@@ -50,7 +51,8 @@ impl Default for Origin {
     }
 }
 
-// There is no room for one part more.
+// There is no room for one part more: a list has 20, above what c + L may be, since there is no heap.
+// Not `CapacityError`, which hands back a part that nobody wants.
 #[derive(Clone, Copy, PartialEq, Eq)]
 pub struct TooMany;
 
@@ -96,6 +98,7 @@ pub fn negated_atom(tree: Tree) -> Option<Atom>
 }
 
 // A filler, read plainly or under a not.
+// By a test: which of the two functions runs is a matter of the source, and document 01 asks for two.
 fn filler_atom(tree: Tree, odd: bool) -> Option<Atom>
     ensures { atom_found result ≡ atom (nf_of odd tree.entry) }
 {
@@ -106,6 +109,7 @@ fn filler_atom(tree: Tree, odd: bool) -> Option<Atom>
 }
 
 // A restriction met: its part, and the next one for its filler where that needs a fresh name; no part where one alike is there.
+// Tree or table and the list of parts are no struct: their one fact, the room, is in the list's type.
 fn meet(
     tree: Tree,
     odd: bool,
@@ -210,6 +214,7 @@ fn axiom_at(table: &Table, i: u8, parts: &mut ArrayVec<Origin, 20>) -> Result<()
 }
 
 // The parts of all axioms.
+// By number, since an axiom is read as a `Tree`, which takes a record's number.
 fn axiom_parts(table: &Table, parts: &mut ArrayVec<Origin, 20>) -> Result<(), TooMany>
     ensures { AddsAxioms table.now parts.old.items parts.new.items result }
 {

@@ -10,7 +10,7 @@ use crate::trees::Tree;
 use records::nodes::Node;
 use records::table::Table;
 
-// The outermost record of a role; role 0 as named stands where no role does.
+// The outermost record of a role; role 0 as named stands where no role does, as in the definitions.
 fn outer_role(tree: Tree) -> Node
     ensures { Outer tree.entry result }
 {
@@ -28,6 +28,7 @@ fn outer_role(tree: Tree) -> Node
 }
 
 // Whether two trees of one table are one record: then no tree is looked at.
+// Not `==`: the two may be read with different records below them.
 fn same_record(x: Tree, y: Tree) -> bool
     ensures { result ≡ true → OneRecord x.entry y.entry }
 {
@@ -58,6 +59,7 @@ fn same_role(x: Tree, y: Tree) -> bool
 }
 
 // The role of a restriction: the first that its record names.
+// Record 0 where there is none, as in the definitions; in a table that was read there is one.
 pub fn restricted_role<'a>(table: &'a Table, source: Source) -> Tree<'a>
     ensures { (result.table.now ≡ table.now) × (role_at result ≡ role_of table.now source) }
 {
@@ -69,6 +71,7 @@ pub fn restricted_role<'a>(table: &'a Table, source: Source) -> Tree<'a>
 }
 
 // Whether a part is the restriction with this role and filler.
+// Quantifier, role and filler are no struct: no fact ties them, and each call would build it to take it apart.
 fn is_alike(part: Origin, quantifier: Quantifier, role: Tree, filler: Atom) -> bool
     ensures { Told role.entry.table.now part quantifier (role_at role.entry) filler result }
 {

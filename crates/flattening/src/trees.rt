@@ -6,6 +6,7 @@ use records::nodes::Node;
 use records::table::Table;
 
 // A record of a table, which is read with those below a number alone.
+// A number and no reference: a sheet names records by number, and there is no heap.
 #[derive(Clone, Copy)]
 pub struct Tree<'a> {
     pub table: &'a Table,

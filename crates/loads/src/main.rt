@@ -47,7 +47,7 @@ fn number_of(kind: Kind) -> u64
     }
 }
 
-// The number of a restriction's filler: a part's, 256 for everything, 257 for nothing; 0 for a name.
+// The number of a restriction's filler: a part's, 256 for everything, 257 for nothing; 0 for a part that has none.
 #[tactic(auto, unfolding(tbox::specs::Promise::filler_number))]
 fn filler_of(kind: Kind) -> u64
     ensures { result ≡ filler_number kind }

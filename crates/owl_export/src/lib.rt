@@ -1,2 +1,2 @@
-// Knowledge bases as OWL 2 functional-style syntax: the definitions of specs/, and no code yet.
+// Knowledge bases as OWL 2 functional-style syntax: the definitions of specs/, and no code.
 #![tactic(auto)]

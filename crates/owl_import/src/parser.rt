@@ -81,6 +81,7 @@ impl<'a> Parser<'a> {
     }
 
     // A record that is written as it begins. A record's first byte is its kind.
+    // A slice, since a record has one to three bytes: an `ArrayVec<u8, 3>` would be built for each.
     fn leaf(&mut self, bytes: &[u8]) -> Result<u8, Refusal>
         requires { length bytes.now ≤ 3 }
         ensures reads { LeafRead bytes.now self.old result self.new }
@@ -164,6 +165,7 @@ impl<'a> Parser<'a> {
     }
 
     // Two concepts in parentheses, and the record of the form.
+    // A kind is a byte here, since a record is written as its bytes.
     #[cycle(concept)]
     fn pair(&mut self, kind: u8) -> Result<u8, Refusal>
         ensures reads { PairRead kind self.old result self.new }

@@ -8,7 +8,7 @@ use arrayvec::ArrayVec;
 #[derive(Drop)]
 pub(crate) struct Sheet {
     pub(crate) bytes: ArrayVec<u8, 765>,
-    // How many records they are.
+    // How many records they are: of one to three bytes each, so the length of `bytes` does not say it.
     pub(crate) count: u8,
     ghost short: { array_vec_len bytes ≤ 3 * count },
 }

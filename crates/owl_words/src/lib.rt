@@ -34,7 +34,7 @@ pub struct Found<'a> {
     pub rest: &'a [u8],
 }
 
-// The known words but parentheses.
+// The known words but parentheses: a table and no map, since there is no heap.
 const KNOWN_WORDS: [(&[u8], Word); 25] = [
     (b"SubClassOf", Word::SubClassOf),
     (b"ObjectIntersectionOf", Word::IntersectionOf),

@@ -31,7 +31,7 @@ pub(crate) fn slot_line(number: u64, answer: SlotAnswer) -> Line
     match answer {
         SlotAnswer::Met(s) => put_value(&mut line, b" met ", s),
         SlotAnswer::Unmet(s) => put_value(&mut line, b" unmet ", s),
-        SlotAnswer::Refused(n) => put_value(&mut line, b" refused ", n as u64),
+        SlotAnswer::Refused(n) => put_value(&mut line, b" refused ", u64::from(n)),
     }
     line
 }
@@ -59,7 +59,11 @@ pub(crate) fn last_line(ended: Option<Totals>) -> Line
         Some(t) => totals_line(t),
         None => {
             let mut line = Line::new();
-            put_value(&mut line, b"refused ", Reason::QueueCutOff.number() as u64);
+            put_value(
+                &mut line,
+                b"refused ",
+                u64::from(Reason::QueueCutOff.number()),
+            );
             line
         }
     }

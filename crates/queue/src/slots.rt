@@ -10,7 +10,7 @@ pub enum SlotAnswer {
     // The survivor count.
     Met(u64),
     Unmet(u64),
-    // The refusal's number: the definitions take it from the numbers that judge says, of which no `Reason` is told.
+    // The refusal's number, as the definitions take it from the numbers that judge says: they tell of no `Reason`.
     Refused(u8),
 }
 

@@ -8,6 +8,7 @@ use crate::slots::judge_slot;
 use crate::totals::Totals;
 
 // The kinds that stand in front of a slot and at the queue's end.
+// Bytes and no enum: each is compared with one byte of the input, and every other byte cuts the queue off.
 const SLOT: u8 = 0x30;
 
 const END: u8 = 0x31;

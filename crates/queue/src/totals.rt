@@ -30,6 +30,7 @@ impl Model for Totals {
 }
 
 // Those before the first slot.
+// By hand, since a derived default has no clause that these are the totals of no slots.
 impl Default for Totals {
     fn default() -> Totals
         ensures { result ≡ totals_of [] }

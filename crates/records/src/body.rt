@@ -79,6 +79,7 @@ fn placed(fault: Result<(), Reason>, at: usize, offset: usize) -> Result<(), Ref
 }
 
 // The first fault of the body a, b of a record at a place. The second reference sees that the first has named its record.
+// Shape, place and bytes are no struct: the record is made of them only after the last test.
 pub fn check_body(table: &mut Table, shape: Shape, at: usize, a: u8, b: u8) -> Result<(), Refusal>
     requires { at + 2 ≤ usize.MAX }
     ensures fault { Tells at (body_fault table.old (shape_seen shape) a b) result }

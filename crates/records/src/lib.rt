@@ -53,6 +53,7 @@ impl Progress {
 }
 
 // Body byte i of the record at a place, 0 where the shape has none.
+// 0 and no `None`: the definitions give every record two body bytes, and no test looks at one that is not there.
 fn body_byte(sheet: &[u8], at: usize, shape: Shape, i: u8) -> u8
     requires { at + shape.body < length sheet.now }
     ensures { result ≡ body_byte_lem sheet.now at (shape_seen shape) i }
@@ -65,6 +66,7 @@ fn body_byte(sheet: &[u8], at: usize, shape: Shape, i: u8) -> u8
 }
 
 // One record, of kind k.
+// Sheet, table and progress are no struct: the sheet is read, the table is written, and the progress is an answer.
 #[inline(always)]
 fn step_of_kind(sheet: &[u8], table: &mut Table, p: Progress, k: u8) -> Result<Progress, Refusal>
     requires { (length table.old < 255) × (p.at < length sheet.now) × (k ≡ get_or sheet.now p.at 0) }

@@ -62,6 +62,7 @@ impl Node {
     }
 
     // The first number of the record's body, 0 where it has none.
+    // 0 and no `None`, as in the definitions' entries.
     pub fn first(self) -> u8
         ensures { result ≡ node_first self }
     {
@@ -83,7 +84,8 @@ impl Node {
     }
 }
 
-// The node of a kind with the two bytes of its body; none of an unknown kind. A second match over kinds, by what a body is made into.
+// The node of a kind with the two bytes of its body; none of an unknown kind.
+// A second match over kinds: a shape is wanted before the body is read, a node after it was tested.
 #[tactic(auto, unfolding(crate::specs::Shapes::shape_of))]
 pub fn node_of(kind: u8, a: u8, b: u8) -> Option<Node>
     ensures { NodeOf kind a b result }

@@ -30,6 +30,7 @@ pub enum Reason {
 
 impl Reason {
     // The documents' number.
+    // A method and no `From`: a call says which number is meant.
     pub fn number(self) -> u8
         ensures { result ≡ number self }
     {
@@ -52,6 +53,7 @@ impl Refusal {
     }
 
     // A refusal whose place is 0.
+    // Place 0 is the documents' word for no byte. No `From<Reason>`: a `?` would then give place 0 unseen.
     pub fn of(reason: Reason) -> Refusal
         ensures { (result.reason ≡ reason) × (result.place ≡ 0) }
     {

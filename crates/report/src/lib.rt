@@ -1,4 +1,5 @@
 // Texts and numbers put behind what a lent buffer holds, and the evening program's lines.
+// Put part by part: `write!` promises its bytes only where it succeeds, and no clause says that it does.
 #![tactic(auto)]
 
 ghost use Rattle.std.specs.Prelude.{◌≡◌, ◌+◌, ◌≤◌, ◌++◌, length};
@@ -17,6 +18,7 @@ use refusals::Refusal;
 use tbox::Counts;
 
 // Puts a text.
+// `out` is of another crate's type, so these are no methods, and each text asks for its own room.
 pub fn put_text<const N: usize>(out: &mut ArrayVec<u8, N>, text: &[u8])
     requires { array_vec_len out.old + length text.now ≤ N }
     ensures { out.new.items ≡ out.old.items ++ text.now }

@@ -28,6 +28,7 @@ impl Admitted {
         ensures { Admits sheet.now table.new result }
     {
         let scanned = scan(sheet, table)?;
+        // No `?`: the error has nothing to convert, and the closure of a `map_err` would ignore it.
         let Ok(parts) = flatten(table, scanned.names) else {
             return Err(Refusal::of(Reason::TooManyParts));
         };

@@ -13,6 +13,7 @@ pub struct Size {
 }
 
 // A restriction's filler: everything, nothing, or a part.
+// Not `Atom`: the number is a part's, and a part may be fresh.
 #[derive(Clone, Copy, PartialEq, Eq)]
 pub enum Filler {
     Everything,
@@ -45,6 +46,7 @@ pub enum Kind {
 }
 
 // A part: its kind, and the role sets on which a restriction's role holds.
+// The words stand beside the kind and not in it, so that the loops over role sets match no kind.
 #[derive(Clone, Copy, Default)]
 pub struct Part {
     pub kind: Kind,
@@ -52,6 +54,7 @@ pub struct Part {
 }
 
 // The names, the parts and roles, and the labels on which every flattened axiom holds.
+// 64 words whatever c is: there is no heap, and a label of 12 bits always has its word.
 #[derive(Drop)]
 pub struct Base {
     pub names: usize,
@@ -59,5 +62,6 @@ pub struct Base {
     pub parts: ArrayVec<Part, 12>,
     pub good: [u64; 64],
     pub ghost all: { length parts.items ≡ size.parts },
+    // Here and not in `Size`, whose functions need c + L alone.
     pub ghost few: { size.roles ≤ 4 },
 }

@@ -72,6 +72,7 @@ fn write_part(slot: &mut [u8], origin: Origin)
 }
 
 // The bytes of all parts, from the front; the bytes after them stay.
+// A part of the list is lent on, as document 01 asks; its place is a sum, since no product is compiled.
 fn write_parts(parts: &[Origin], list: &mut [u8])
     requires { 3 * length parts.now ≤ length list.old }
     ensures { list.new ≡ flat_map slot_bytes parts.now ++ drop (3 * length parts.now) list.old }

@@ -81,6 +81,7 @@ impl<'a> Parts<'a> {
 }
 
 // The places of all records, by their numbers.
+// 256 pairs, so that a record's number, a byte, always has one; there is no heap.
 #[derive(Drop)]
 pub(crate) struct Places {
     pairs: [Pair; 256],

@@ -14,4 +14,4 @@ returns-in-Unmet c = rw (c.in-Unmet.is, c.put_value-in-Unmet.ensures, c.put_numb
 
 pub returns-in-Refused : goal.returns-in-Refused
 unfolding text slot_line
-returns-in-Refused c = rw (c.in-Refused.is, c.put_value-in-Refused.ensures, c.put_number.ensures.puts, c.new-line.ensures) (simp append_assoc)
+returns-in-Refused c = rw (c.in-Refused.is, c.put_value-in-Refused.ensures, c.from.ensures, c.put_number.ensures.puts, c.new-line.ensures) (simp append_assoc)
