@@ -19,8 +19,8 @@ use Rattle.elimination.proofs.Written.{written_same}
 use Rattle.elimination.proofs.Quantifiers.{all_same, any_same}
 use Rattle.syntax.specs.Flatten.{everything, nothing, name_a, Filler, atomic, fresh, Part, name_p, fresh_p, exists_p, forall_p, part_at}
 use Rattle.syntax.specs.Truth.{kb_on}
-use Rattle.syntax.specs.Parts.{kind_of, role_holds}
-use Rattle.tbox.specs.Promise.{filler_is, kind_is, kind_number, Flattened}
+use Rattle.syntax.specs.Parts.{role_holds}
+use Rattle.tbox.specs.Promise.{filler_is, kind_is, Flattened}
 use Rattle.tbox.specs.declared.base.Kind.{Kind}
 use Rattle.syntax.specs.Reading.{Kb, flats_of, parts_of}
 use Rattle.tbox.specs.declared.base.Base.{Base}
@@ -36,6 +36,7 @@ use Rattle.domino.specs.Answers.{verdict_of}
 use Rattle.domino.specs.OwnSteps.{StrikesSet}
 use Rattle.domino_initial.specs.Opening.{OpensSet}
 use Rattle.domino_settling.specs.Settling.{SettlesSet, JudgesSet}
+use Rattle.tbox.proofs.KindNumbers.{loaded_kind}
 use Rattle.domino_conditions.proofs.Rows.{few_sets}
 
 -- ---- tests that count only where another passes
@@ -224,18 +225,11 @@ part_has (fresh_p g d) B = refl
 part_has (exists_p g u f) B = filler_has f B
 part_has (forall_p g u f) B = filler_has f B
 
-part_kind : (p : Part) → kind_number (kind_is p) ≡ kind_of p
-unfolding kind_number kind_of
-part_kind (name_p t) = refl
-part_kind (fresh_p g d) = refl
-part_kind (exists_p g u f) = refl
-part_kind (forall_p g u f) = refl
-
 pub base_agrees : (k : Kb) (b : Base) → Flattened k b → Agree (view b) (kb_view k)
 base_agrees k b f = record {
   parts = f.count;
   roles = f.roles;
-  kind = λ i h. ap kind_number (f.kind i h) ∙ part_kind (part_at (parts_of k) i);
+  kind = loaded_kind k b f;
   holds = λ i R h l.
       let r = few_sets b.size.roles R b.few l in
       ap (λ (x : ℕ). bit x (R % 64)) (f.role i (R / 64) h (omega arith))

@@ -1,7 +1,7 @@
 -- The number of the first condition that a domino fails, from what the tests say of it; and what the tests ask.
 use mathlib.Core.Path.{◌≡◌, refl, sym as flip, ap, ◌∙◌}
 use mathlib.Core.Bool.{Bool, true, false, not, cond}
-use Prim.Native.Nat.{ℕ, ◌*◌, ◌/◌, ◌^◌, ◌≤◌, ◌<◌}
+use Prim.Native.Nat.{ℕ, ◌/◌, ◌<◌}
 use native.Mathlib.Omega.{arith}
 use lib.Dec.{eqb}
 use lib.ListN.{length}
@@ -19,7 +19,7 @@ use Rattle.domino_conditions.specs.Polarity.{right_fits_lem, row_defect_lem}
 use Rattle.domino_conditions.specs.declared.conditions.Condition.{Condition}
 use Rattle.domino_conditions.specs.declared.conditions.Condition.TheVariants.{Kb, Ex, Uni, DelEx, DelUni, Sym}
 use Rattle.domino_conditions.specs.declared.conditions.DominoSet.{DominoSet}
-use Rattle.domino_conditions.proofs.Rows.{few_sets, few_labels, converse_of, converse-room, row_at}
+use Rattle.domino_conditions.proofs.Rows.{few_labels, converse_of, converse-room, row_at}
 use Rattle.domino_conditions.proofs.Polarity.{fits-ex, fits-uni, witnessed-delex, witnessed-deluni}
 
 -- the first that fails of: good, ex, uni, those of the left label, sym
@@ -105,12 +105,6 @@ module _ (d : DominoSet) (a r b : ℕ) (o : IsDomino d a r b) where
 
   pub label-few : a < 4096
   label-few = few_labels c a (omega (arith, d.base.now.size.within)) o.left
-
-  pub sets_few : r < 256
-  sets_few = few_sets l r d.base.now.few o.roles
-
-  pub roles_here : (l ≤ 4) × (r < 2 ^ (2 * l))
-  roles_here = (d.base.now.few, o.roles)
 
   module _ (q : ℕ) (eq : q ≡ inverse l r) where
     pub converse_here : Domino c l b q a

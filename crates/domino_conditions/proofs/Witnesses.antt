@@ -1,18 +1,21 @@
 -- The search for a part's witness in a row, by loops over role sets and right labels, and the walk over all parts.
-use mathlib.Core.Path.{◌≡◌, sym, ap, ap₂, subst, ◌∙◌}
+use mathlib.Core.Path.{◌≡◌, refl, sym, ap, ap₂, subst, ◌∙◌}
 use mathlib.Core.Bool.{Bool, true, false, not, ◌&&◌, and-false}
 use Prim.Native.Nat.{ℕ, ◌+◌, ◌*◌, ◌^◌, ◌≤◌, ◌<◌}
 use native.Mathlib.Omega.{arith}
-use Rattle.bitset.specs.Bits.{Set}
+use Rattle.bitset.specs.Bits.{Set, look}
 use Rattle.elimination.specs.Sets.{every, some}
 use Rattle.elimination.proofs.Quantifiers.{any_intro, any_same, some_more, every_more, every-fails}
 use Rattle.semantics.specs.Dominoes.{Dominoes, number, numbered}
 use Rattle.semantics.specs.Conditions.{View, witness}
 use Rattle.flattening.specs.declared.parts.Quantifier.{Quantifier}
 use Rattle.tbox.specs.declared.base.Filler.{Filler}
-use Rattle.tbox.specs.declared.base.Base.{Base}
-use Rattle.domino_conditions.specs.Tables.{filler_in_label_lem, view}
+use Rattle.tbox.specs.declared.base.Part.{Part}
+use Rattle.tbox.specs.Promise.{part_in}
+use Rattle.domino_conditions.specs.Tables.{filler_in_label_lem, role_holds_on_lem}
 use Rattle.domino_conditions.specs.Polarity.{wants, as_wanted_lem, wants_witness_lem, has_witness_lem, witnessed, row_defect_lem}
+use Rattle.domino_conditions.specs.Sets.{view_of, dominoes_of, found}
+use Rattle.domino_conditions.specs.declared.conditions.DominoSet.{DominoSet}
 use Rattle.domino_conditions.proofs.Rows.{number_at}
 
 -- ---- one run: t tests the right label, S the number
@@ -48,32 +51,34 @@ module _ (c l A : ℕ) (t : ℕ → Bool) (S : Set) where
     unfolding run_has_witness
     in_hit R B labels y e u i q g = ap₂ ◌&&◌ (sym i ∙ q) (any_intro (2 ^ c) (is_witness_lem R) B (omega arith) g)
 
--- ---- what the search answers: t tests the right label, h the role set
-module _ (v : View) (S : Set) (A k : ℕ) (t h : ℕ → Bool) (e : (R : ℕ) → v.holds k R ≡ h R) where
-  abbrev tried : ℕ → Bool
-  tried = run_has_witness v.parts v.roles A t S h
+-- ---- what the search answers
 
-  found_is : witness v (numbered v.parts v.roles S) A k t ≡ some (2 ^ (2 * v.roles)) tried
-  unfolding witness numbered is_witness_lem run_has_witness
-  found_is = any_same (2 ^ (2 * v.roles)) _ _ (λ R l. ap (λ (x : Bool). x && some (2 ^ v.parts) (is_witness_lem v.parts v.roles A t S R)) (e R))
+-- a right label with the filler f, or without it, as the quantifier wants
+abbrev pub fits_filler : Quantifier → Filler → ℕ → Bool
+fits_filler q f B = as_wanted_lem (wants q) (filler_in_label_lem f B)
 
-  pub found_none : (R sets : ℕ) → sets ≡ 2 ^ (2 * v.roles) → R ≤ sets → sets ≤ R → some R tried ≡ false
-      → false ≡ witness v (numbered v.parts v.roles S) A k t
-  found_none R sets g u d q =
-      let s : R ≡ 2 ^ (2 * v.roles) = omega arith in
-      sym (found_is ∙ ap (λ (n : ℕ). some n tried) (sym s) ∙ q)
+module _ (d : DominoSet) (p : Part) (q : Quantifier) (f : Filler) (a : ℕ) where
+  abbrev pub tried : ℕ → Bool
+  tried = run_has_witness d.base.now.size.parts d.base.now.size.roles a (fits_filler q f) (look d.set.now) (role_holds_on_lem p)
 
-  pub found_hit : (R sets : ℕ) → sets ≡ 2 ^ (2 * v.roles) → R < sets → tried R ≡ true
-      → true ≡ witness v (numbered v.parts v.roles S) A k t
-  found_hit R sets g u q = sym (found_is ∙ any_intro (2 ^ (2 * v.roles)) tried R (omega arith) q)
+  found_is : found d p q f a ≡ some (2 ^ (2 * d.base.now.size.roles)) tried
+  unfolding found numbered is_witness_lem run_has_witness
+  found_is = refl
 
--- the search is that of a part with the filler f
-pub found_for : (b : Base) (D : Dominoes) (A k : ℕ) (q : Quantifier) (f : Filler) → ((B : ℕ) → filler_in_label_lem f B ≡ (view b).has k B)
-    → witness (view b) D A k (λ B. as_wanted_lem (wants q) (filler_in_label_lem f B)) ≡ has_witness_lem (view b) (wants q) D A k
-unfolding has_witness_lem witness
-found_for b D A k q f e =
-    any_same _ _ _ (λ R h. ap (λ (x : Bool). (view b).holds k R && x)
-    (any_same _ _ _ (λ B l. ap (λ (x : Bool). as_wanted_lem (wants q) x && D A R B) (e B))))
+  pub found_none : (R sets : ℕ) → sets ≡ 2 ^ (2 * d.base.now.size.roles) → R ≤ sets → sets ≤ R → some R tried ≡ false → false ≡ found d p q f a
+  found_none R sets g u v e =
+      let s : R ≡ 2 ^ (2 * d.base.now.size.roles) = omega arith in
+      sym (found_is ∙ ap (λ (n : ℕ). some n tried) (sym s) ∙ e)
+
+  pub found_hit : (R sets : ℕ) → sets ≡ 2 ^ (2 * d.base.now.size.roles) → R < sets → tried R ≡ true → true ≡ found d p q f a
+  found_hit R sets g u e = sym (found_is ∙ any_intro (2 ^ (2 * d.base.now.size.roles)) tried R (omega arith) e)
+
+  -- of part k it is the witness of the conditions
+  pub found_for : (k : ℕ) → part_in d.base.now k ≡ p → ((B : ℕ) → filler_in_label_lem f B ≡ (view_of d).has k B)
+      → found d p q f a ≡ has_witness_lem (view_of d) (wants q) (dominoes_of d) a k
+  unfolding found has_witness_lem witness
+  found_for k h e = any_same _ _ _ (λ R u. ap₂ ◌&&◌ (ap (λ (x : Part). look x.role R) (sym h))
+      (any_same _ _ _ (λ B v. ap (λ (x : Bool). as_wanted_lem (wants q) x && dominoes_of d a R B) (e B))))
 
 -- ---- the walk over all parts
 
@@ -85,17 +90,16 @@ module _ (v : View) (w : Bool) (D : Dominoes) (A : ℕ) where
   abbrev pub Served : ℕ → Type 0
   Served k = every k served ≡ true
 
-  pub served_not : (k : ℕ) (y : Bool) → Served k → y ≡ wants_witness_lem v w A k → y ≡ false → Served (k + 1)
-  served_not k y p e h = every_more served k p (ap (λ (x : Bool). not (x && not (has_witness_lem v w D A k))) (sym e ∙ h))
+  pub served_not : (k : ℕ) → Served k → wants_witness_lem v w A k ≡ false → Served (k + 1)
+  served_not k p e = every_more served k p (ap (λ (x : Bool). not (x && not (has_witness_lem v w D A k))) e)
 
-  pub served_has : (k : ℕ) (y : Bool) → Served k → y ≡ has_witness_lem v w D A k → y ≡ true → Served (k + 1)
-  served_has k y p e h =
-      every_more served k p (ap (λ (x : Bool). not (wants_witness_lem v w A k && not x)) (sym e ∙ h) ∙ ap not (and-false (wants_witness_lem v w A k)))
+  pub served_has : (k : ℕ) → Served k → has_witness_lem v w D A k ≡ true → Served (k + 1)
+  served_has k p e =
+      every_more served k p (ap (λ (x : Bool). not (wants_witness_lem v w A k && not x)) e ∙ ap not (and-false (wants_witness_lem v w A k)))
 
-  pub served_stop : (k : ℕ) (x y : Bool) → k < v.parts → x ≡ wants_witness_lem v w A k → x ≡ true → y ≡ has_witness_lem v w D A k → y ≡ false
-      → false ≡ witnessed v w D A
+  pub served_stop : (k : ℕ) → k < v.parts → wants_witness_lem v w A k ≡ true → has_witness_lem v w D A k ≡ false → false ≡ witnessed v w D A
   unfolding witnessed
-  served_stop k x y l e h f g = sym (every-fails served v.parts k l (ap₂ (λ (s t : Bool). not (s && not t)) (sym e ∙ h) (sym f ∙ g)))
+  served_stop k l e f = sym (every-fails served v.parts k l (ap₂ (λ (s t : Bool). not (s && not t)) e f))
 
   pub served_end : (k : ℕ) → k ≤ v.parts → v.parts ≤ k → Served k → true ≡ witnessed v w D A
   unfolding witnessed

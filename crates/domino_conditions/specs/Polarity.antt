@@ -11,9 +11,8 @@ use Rattle.tbox.specs.declared.base.Filler.{Filler}
 use Rattle.tbox.specs.declared.base.Kind.{Kind}
 use Rattle.tbox.specs.declared.base.Kind.TheVariants.{Restriction}
 use Rattle.tbox.specs.declared.base.Part.{Part}
-use Rattle.tbox.specs.declared.base.Base.{Base}
-use Rattle.tbox.specs.Promise.{part_in}
-use Rattle.domino_conditions.specs.Tables.{filler_in_label_lem, view}
+use Rattle.tbox.specs.Promise.{kind_number}
+use Rattle.domino_conditions.specs.Tables.{role_holds_on_lem}
 
 -- an existential part wants its filler in
 abbrev pub wants : Quantifier → Bool
@@ -61,20 +60,19 @@ abbrev pub IsFillerOf : Kind → Quantifier → Option Filler → Type 0
 IsFillerOf d q None = (f : Filler) → d ≡ Restriction q f → ⊥
 IsFillerOf d q (Some f) = d ≡ Restriction q f
 
--- what a part asks of the right label of (a, r, _), if it is part k of a knowledge base: nothing, or its filler
-abbrev pub AsksFor : Base → Quantifier → ℕ → ℕ → ℕ → Option Filler → Type 0
-AsksFor b q a r k None = asks_of_right_lem (view b) (wants q) a r k ≡ false
-AsksFor b q a r k (Some f) =
-    (asks_of_right_lem (view b) (wants q) a r k ≡ true) × ((B : ℕ) → filler_in_label_lem f B ≡ (view b).has k B)
+-- does the part p, if it stands as part k, ask something of the right label of (a, r, _)
+abbrev pub part_asks : Part → Quantifier → ℕ → ℕ → ℕ → Bool
+part_asks p q a r k = eqb (kind_number p.kind) (kind_for_lem (wants q)) && (not (as_wanted_lem (wants q) (bit a k)) && role_holds_on_lem p r)
 
+-- what it asks: nothing, or its filler
 abbrev pub AskedOfRight : Part → Quantifier → ℕ → ℕ → ℕ → Option Filler → Type 0
-AskedOfRight p q a r k o = (b : Base) → part_in b k ≡ p → AsksFor b q a r k o
+AskedOfRight p q a r k None = part_asks p q a r k ≡ false
+AskedOfRight p q a r k (Some f) = (part_asks p q a r k ≡ true) × IsFillerOf p.kind q (Some f)
 
--- the same of what a part wants of the row a
-abbrev pub WantsFor : Base → Quantifier → ℕ → ℕ → Option Filler → Type 0
-WantsFor b q a k None = wants_witness_lem (view b) (wants q) a k ≡ false
-WantsFor b q a k (Some f) =
-    (wants_witness_lem (view b) (wants q) a k ≡ true) × ((B : ℕ) → filler_in_label_lem f B ≡ (view b).has k B)
+-- the same of what it wants of the row a
+abbrev pub part_wants : Part → Quantifier → ℕ → ℕ → Bool
+part_wants p q a k = eqb (kind_number p.kind) (kind_for_lem (wants q)) && as_wanted_lem (wants q) (bit a k)
 
 abbrev pub WantedOfRow : Part → Quantifier → ℕ → ℕ → Option Filler → Type 0
-WantedOfRow p q a k o = (b : Base) → part_in b k ≡ p → WantsFor b q a k o
+WantedOfRow p q a k None = part_wants p q a k ≡ false
+WantedOfRow p q a k (Some f) = (part_wants p q a k ≡ true) × IsFillerOf p.kind q (Some f)

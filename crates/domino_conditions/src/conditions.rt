@@ -131,7 +131,7 @@ impl DominoSet<'_> {
     ghost use Rattle.semantics.specs.Conditions.{defect, defect_at};
     ghost use Rattle.domino_conditions.specs.Tables.{filler_in_label_lem, defect_number};
     ghost use Rattle.domino_conditions.specs.Polarity.{as_wanted_lem, witnessed, wants, row_defect_lem};
-    ghost use Rattle.domino_conditions.specs.Sets.{view_of, dominoes_of, IsLabel, IsNumber, IsDomino, Found};
+    ghost use Rattle.domino_conditions.specs.Sets.{view_of, dominoes_of, IsLabel, IsNumber, IsDomino, found};
 
     // Is the domino n, with the right label b, in the set, and has b the filler, or lacks it, as is wanted?
     fn is_witness(&self, quantifier: Quantifier, filler: Filler, n: usize, b: usize) -> bool
@@ -144,7 +144,7 @@ impl DominoSet<'_> {
     // Has a part with this filler a witness in the row a? The two loops are left by a label at the first one, as document 01 asks.
     fn has_witness(&self, part: &Part, quantifier: Quantifier, filler: Filler, a: usize) -> bool
         requires { IsLabel self.now a }
-        ensures { Found self.now part.now quantifier filler a result }
+        ensures { result ≡ found self.now part.now quantifier filler a }
     {
         let labels = labels(self.base.size);
         let mut found = false;

@@ -13,6 +13,13 @@ pub fn pow(k: usize) -> usize
     1usize << k
 }
 
+// How many bits the number of a domino has.
+pub fn domino_bits(size: Size) -> usize
+    ensures { result ≡ 2 * size.parts + 2 * size.roles }
+{
+    size.parts + size.roles + size.parts + size.roles
+}
+
 // How many labels there are, how many role sets, how many dominoes with one left label, and how many dominoes.
 pub fn labels(size: Size) -> usize
     ensures { result ≡ 2 ^ size.parts }
@@ -35,7 +42,7 @@ pub fn row_size(size: Size) -> usize
 pub fn dominoes(size: Size) -> usize
     ensures { result ≡ total size.parts size.roles }
 {
-    pow(size.parts + size.roles + size.parts + size.roles)
+    pow(domino_bits(size))
 }
 
 // The number of the domino (a, r, b).
@@ -77,5 +84,5 @@ pub fn inverse(l: usize, r: usize) -> usize
 pub fn words_for(size: Size) -> usize
     ensures { result ≡ words_for_lem (total size.parts size.roles) }
 {
-    bitset::words_for(size.parts + size.roles + size.parts + size.roles)
+    bitset::words_for(domino_bits(size))
 }

@@ -24,7 +24,7 @@ use Rattle.domino_settling.specs.declared.settling.Sweep.{Sweep}
 use Rattle.domino_conditions.specs.Tables.{condition_number, view}
 use Rattle.domino_conditions.specs.declared.conditions.Condition.{Condition}
 use Rattle.domino_conditions.specs.declared.conditions.Condition.TheVariants.{Kb, Ex, Uni, DelEx, DelUni, Sym}
-use Rattle.domino_conditions.proofs.Rows.{twice, number-zero, row_le, left_in_row, row_end}
+use Rattle.domino_conditions.proofs.Rows.{size_as, number-zero, row_le, left_in_row, row_end}
 use Rattle.domino_conditions.proofs.Polarity.{witnessed-delex, witnessed-deluni}
 use Rattle.domino_settling.proofs.Passed.{pass-none, pass_idle, pass_empty, pass_on, pass-at}
 
@@ -78,10 +78,6 @@ fails-number Sym n e f = omega arith
 
 -- ---- a row
 
--- the size of a row as it is written in Rows
-pub row_count : (c l size : ℕ) → size ≡ 2 ^ (2 * l + c) → size ≡ 2 ^ (l + l + c)
-row_count c l size e = e ∙ ap (λ (x : ℕ). 2 ^ (x + c)) (flip (twice l))
-
 module _ (v : View) (a : ℕ) (la : a < 2 ^ v.parts) where
   abbrev pub from : ℕ
   from = number v.parts v.roles a 0 0
@@ -90,7 +86,7 @@ module _ (v : View) (a : ℕ) (la : a < 2 ^ v.parts) where
   upto = number v.parts v.roles (a + 1) 0 0
 
   row_ends : (at size : ℕ) → at ≡ from → size ≡ 2 ^ (2 * v.roles + v.parts) → at + size ≡ upto
-  row_ends at size e f = row_end v.parts v.roles a at size e (row_count v.parts v.roles size f)
+  row_ends at size e f = row_end v.parts v.roles a at size e (size_as v.parts v.roles size f)
 
   here : (n : ℕ) → from ≤ n → n < upto → left_of v.parts v.roles n ≡ a
   here n h l = left_in_row v.parts v.roles a n h l

@@ -2,14 +2,14 @@
 use Prim.Native.Nat.{ℕ, ◌≤◌, ◌<◌}
 use mathlib.Core.Path.{◌≡◌, refl, ap}
 use mathlib.Core.Logic.{◌⊎◌, inl, inr}
-use mathlib.Core.Bool.{Bool, true, false, not}
+use mathlib.Core.Bool.{Bool, true, false}
 use mathlib.Core.List.{List}
 use native.Mathlib.Omega.{arith}
 use native.Mathlib.Decide.{ℕ_discrete}
 use Rattle.records.specs.Entries.{Entry}
 use Rattle.records.specs.Scan.{record_at_lem}
 use Rattle.syntax.specs.Concepts.{Role, node_of, concept_below, role_below}
-use Rattle.syntax.specs.Normal.{Tag, tag, Nf, top_n, bottom_n, name_n, not_n, and_n, or_n, exists_n, forall_n, plain, negated}
+use Rattle.syntax.specs.Normal.{Tag, tag, Nf, top_n, bottom_n, exists_n, forall_n, plain, negated}
 use Rattle.flattening.specs.Trees.{nf_below}
 use Rattle.syntax.proofs.Trees.{concept_is, concept_past, concept_none}
 
@@ -21,31 +21,6 @@ pub record Restriction (d c : Nf) : Type 0 where
 
 -- the normal forms of record r by its kind
 module _ (es : List Entry) (below r : ℕ) (e : Entry) (h : r < below) (p : e ≡ record_at_lem es r) where
-  pub nf_top : e.kind ≡ 1 → (plain (concept_below es below r) ≡ top_n) × (negated (concept_below es below r) ≡ bottom_n)
-  unfolding plain node_of
-  nf_top k = rw (concept_is es below r e h p, k) (refl, refl)
-
-  pub nf_name : e.kind ≡ 3 → (plain (concept_below es below r) ≡ name_n e.first) × (negated (concept_below es below r) ≡ not_n e.first)
-  unfolding plain node_of
-  nf_name k = rw (concept_is es below r e h p, k) (refl, refl)
-
-  pub nf_not : (odd : Bool) → e.kind ≡ 4 → nf_below odd es below r ≡ nf_below (not odd) es r e.first
-  unfolding plain node_of concept_below
-  nf_not true k = rw (concept_is es below r e h p, k) refl
-  nf_not false k = rw (concept_is es below r e h p, k) refl
-
-  pub nf_and : e.kind ≡ 5 →
-      (plain (concept_below es below r) ≡ and_n (plain (concept_below es r e.first)) (plain (concept_below es r e.second)))
-      × (negated (concept_below es below r) ≡ or_n (negated (concept_below es r e.first)) (negated (concept_below es r e.second)))
-  unfolding plain node_of concept_below
-  nf_and k = rw (concept_is es below r e h p, k) (refl, refl)
-
-  pub nf_or : e.kind ≡ 6 →
-      (plain (concept_below es below r) ≡ or_n (plain (concept_below es r e.first)) (plain (concept_below es r e.second)))
-      × (negated (concept_below es below r) ≡ and_n (negated (concept_below es r e.first)) (negated (concept_below es r e.second)))
-  unfolding plain node_of concept_below
-  nf_or k = rw (concept_is es below r e h p, k) (refl, refl)
-
   pub nf_exists : e.kind ≡ 7 →
       (plain (concept_below es below r) ≡ exists_n (tag r false e.second) (role_below es r e.first) (plain (concept_below es r e.second)))
       × (negated (concept_below es below r) ≡ forall_n (tag r true e.second) (role_below es r e.first) (negated (concept_below es r e.second)))

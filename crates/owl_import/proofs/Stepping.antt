@@ -16,7 +16,7 @@ use Rattle.records.specs.Shapes.{shape_of}
 use Rattle.std.specs.Result.{IsErrAnd}
 use Rattle.std.proofs.lemmas.Result.{err_from_is_err_and}
 use Rattle.owl_import.proofs.Laying.{laid-append}
-use Rattle.owl_import.specs.Steps.{Stored, Wrote, Put, Reads, Next, Wrong, Expects, Opens, Moves, Stays, LeafRead, OpeningRead, ClosingRead, PropertyRead, RoleRead, ConceptRead, both, FormRead}
+use Rattle.owl_import.specs.Steps.{Stored, Wrote, Put, Reads, Next, Wrong, Expects, Opens, Moves, LeafRead, OpeningRead, ClosingRead, PropertyRead, RoleRead, ConceptRead, both, FormRead}
 
 pub wrong_other : (w : Word) → w ≢ Unknown → wrong_no w ≡ 19
 unfolding wrong_no
@@ -161,11 +161,6 @@ pub reads_done : {A X : Type 0} (Q : A → X → Parser → Type 0) (a : A) (x :
     Reads q (done a q.room q.rest.now) Q (Ok x) t
 unfolding Reads
 reads_done Q a x q t e f g h = (e, f, g, h)
-
-pub opens_stays : (p m q : Parser) → Opens p m → Stays m q → Opens p q
-opens_stays p m q o s =
-    let c : q.sheet.count ≡ m.sheet.count = ap (λ (v : Sheet). v.count) s.sheet in
-    record { few = omega (arith, o.few, s.room); room = omega (arith, o.room, s.room); sheet = s.sheet ∙ o.sheet }
 
 pub property_other : (t : Token) (w : Word) (room : ℕ) → ((n : ℕ) → w ≢ PropertyNamed n) → property_by t w room ≡ wrong t
 unfolding property_by

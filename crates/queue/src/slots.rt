@@ -35,7 +35,7 @@ pub(crate) fn judge_slot(slot: &[u8], set: &mut [u64; 4096]) -> SlotAnswer
     requires { length slot.now ≡ 767 }
     ensures { JudgesSlot slot.now set.old set.new result }
 {
-    let n = u16::from_le_bytes([slot[0], slot[1]]) as usize;
+    let n = usize::from(u16::from_le_bytes([slot[0], slot[1]]));
     match slot[2..].get(..n) {
         Some(sheet) => judge_alone(sheet, set),
         None => SlotAnswer::Refused(Reason::SlotTooLong.number()),

@@ -49,10 +49,7 @@ fn takes(t: Totals, input: &[u8]) -> bool
 fn ends(input: &[u8]) -> bool
     ensures { result ≡ end_first input.now }
 {
-    match input.first() {
-        Some(kind) => *kind == END,
-        None => false,
-    }
+    input.first() == Some(&END)
 }
 
 // Judges the slot in front, or says the last line, which none follows. Of the input no more is looked at than `wanted` says.

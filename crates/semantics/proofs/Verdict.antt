@@ -4,7 +4,6 @@
 use Prim.Native.Nat.{ℕ, zero, suc, ◌+◌, ◌*◌, ◌/◌, ◌%◌, ◌^◌, ◌≤◌, ◌<◌}
 use native.Mathlib.Omega.{arith}
 use native.Mathlib.Nat.{mod-lt, mod-eq_of_lt, div-eq_of_lt}
-use lib.Pow.{pow_pos}
 use lib.Dec.{eqb}
 use mathlib.Core.Path.{◌≡◌, refl, sym, ap, ◌∙◌, subst}
 use mathlib.Core.Logic.{◌↔◌}
@@ -34,7 +33,7 @@ use Rattle.semantics.proofs.Meaning.{models_labelling, labelling_models, parts_o
 use Rattle.semantics.proofs.Canonical.{canon-largest}
 use Rattle.semantics.proofs.Projecting.{role_even, role-odd, domino_in, projection_range, projection-stable}
 use Rattle.semantics.proofs.Stability.{stable-sym}
-use Rattle.semantics.proofs.Layering.{Layout, layout_labelling, layers_layout, next-at, roles_on, roles-none}
+use Rattle.semantics.proofs.Layering.{Layout, layout_labelling, layers_layout, next-at, roles_on}
 use Rattle.semantics.proofs.Rising.{rising_enumerates}
 
 -- axioms flattened somehow, their roles below L and each false on no roles, and the largest stable set
@@ -144,16 +143,6 @@ module _ (s : List Axiom) (L : ℕ) (ps : List Part) (fs : List Flat) (F : Flatt
       where
         apart : (g h : ℕ) → g ≡ 0 → h ≡ 0 → (g + 1) % 3 ≡ h → ⊥
         apart g h p q e = omega arith
-
-    -- so two right labels that occur are a domino with no role
-    pub no_roles_in : (A R B A' R' B' : ℕ) → C A R B ≡ true → C A' R' B' ≡ true → C B 0 B' ≡ true
-    unfolding label_at
-    no_roles_in A R B A' R' B' d e =
-        let w = E.all A R B d in let v = E.all A' R' B' e in
-        let x : ℕ = w.0 in let y : ℕ = v.0 in
-        sym (layered-projection B 0 B')
-        ∙ pair_in x y (omega (arith, w.1)) (omega (arith, v.1)) B 0 B' (ap b (mod-eq_of_lt w.1) ∙ w.4)
-        (roles-none L m a r b x y (no_lead x y w.1 v.1) (no_lead y x v.1 w.1)) (ap b (mod-eq_of_lt v.1) ∙ v.4) (pow_pos (2 * L))
 
   -- the largest stable set, its numbers rising
   risen : List ℕ

@@ -1,7 +1,5 @@
 -- Laws on the flattened knowledge base as plain data: from what the code holds of a part to what is promised of it.
-use Rattle.std.proofs.Common.{◌≡◌, ℕ, ◌+◌, ◌<◌, List, [], ◌∷◌, ◌++◌, length, get_or, false, Option, Some, None, MatchOption, add-one, Ok, sym, ap, ◌∙◌, arith, below_more}
-use Rattle.std.proofs.Math.ListN.{get_or-append, length-append}
-use Rattle.std.proofs.lemmas.List.{get_or_at}
+use Rattle.std.proofs.Common.{◌≡◌, ℕ, ◌+◌, ◌<◌, List, length, get_or, false, Option, Some, None, MatchOption, add-one, Ok, sym, ap, ◌∙◌, arith}
 use Rattle.bitset.proofs.Laws.{word_at_none}
 use Rattle.records.specs.Entries.{Entry}
 use Rattle.syntax.specs.Flatten.{atomic, Part, part_at}
@@ -12,7 +10,6 @@ use Rattle.flattening.specs.declared.parts.Atom.{Atom}
 use Rattle.flattening.specs.declared.parts.Quantifier.{Quantifier}
 use Rattle.flattening.specs.declared.parts.Quantifier.TheVariants.{Exists, Forall}
 use Rattle.flattening.specs.declared.parts.Source.{Source}
-use Rattle.flattening.specs.declared.parts.Origin.{Origin}
 use Rattle.flattening.specs.declared.parts.Origin.TheVariants.{Name, Restriction}
 use Rattle.tbox.specs.declared.admission.Admitted.{Admitted}
 use Rattle.tbox.specs.declared.base.Filler.{Filler}
@@ -42,17 +39,6 @@ pub filler_or_next : (i : ℕ) (a : Option Atom) (f : Filler) → MatchOption a 
     f ≡ filler_is (filler_at i a)
 filler_or_next i (Some x) f h = h
 filler_or_next i None f h = rw add-one at h
-
--- one part more
-pub parts_more : (es : List Entry) (os : List Origin) (n : ℕ) (xs : List PlainPart) (x : PlainPart) → PartsAre es os n xs →
-    ((o : Origin) → PartIs (part_of es n (get_or os n o)) x) → PartsAre es os (n + 1) (xs ++ (x ∷ []))
-parts_more es os n xs x h p =
-    record {
-      count = omega (arith, length-append xs (x ∷ []), h.count);
-      each = λ i o l. below_more (λ i. PartIs (part_of es i (get_or os i o)) (get_or (xs ++ (x ∷ [])) i no_part)) n
-          (λ j m. rw (get_or-append xs (x ∷ []) no_part j (omega (arith, h.count))) (h.each j o m))
-          (rw (get_or_at xs x [] no_part n h.count) (p o)) i l;
-    }
 
 -- what loading a sheet answers
 module _ (sheet : List ℕ) (es : List Entry) (a : Admitted) (h : Reads sheet es a) where

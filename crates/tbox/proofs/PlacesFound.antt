@@ -1,6 +1,6 @@
 -- The places of restrictions: at which part each record that is a restriction stands, and the table of places as it is filled.
-use Rattle.std.proofs.Common.{ℕ, ◌+◌, ◌≤◌, ◌<◌, ◌≡◌, refl, sym, ap, subst₂, Bool, true, false, List, [], ◌∷◌, ◌++◌, length, get_or, set, Option, Some, zero, suc, arith, add-zero, get_or-set_same, get_or-set_other}
-use native.Mathlib.Decide.{ℕ_discrete, dec_lt}
+use Rattle.std.proofs.Common.{ℕ, ◌+◌, ◌≤◌, ◌<◌, ◌≡◌, refl, sym, ap, subst₂, Bool, true, false, List, [], ◌∷◌, ◌++◌, length, get_or, Option, Some, zero, suc, arith, add-zero}
+use native.Mathlib.Decide.{dec_lt}
 use lib.ListN.{get_or-eq_default}
 use Rattle.std.proofs.Math.ListN.{get_or-append}
 use Rattle.records.specs.Entries.{Entry}
@@ -87,16 +87,6 @@ module _ (T t u : Tree) (a b : ℕ) (n : Node) (os : List Origin) (p : Pair) whe
 
 -- the loop: the places of the first n records are noted
 module _ {es : List Entry} {ps : List Part} where
-  pub noted_none : (l : List Pair) → Noted es ps l 0
-  noted_none l = record { each = λ r h. absurd (omega arith) }
-
-  pub noted_more : {l : List Pair} {n : ℕ} {p : Pair} → n < length l → PlaceAt es ps n p → Noted es ps l n → Noted es ps (set l n p) (n + 1)
-  noted_more {l} {n} {p} h q f = record { each = λ r i. at r i (ℕ_discrete r n) }
-    where
-      at : (r : ℕ) → r < n + 1 → Dec (r ≡ n) → PlaceAt es ps r (pair_at (set l n p) r)
-      at r i (yes e) = rw (e, get_or-set_same l n p no_pair h) q
-      at r i (no e) = rw (get_or-set_other l n r p no_pair (λ z. e z)) (f.each r (omega (arith, e)))
-
   -- all of them, and a rest past the records
   pub places-all : {l : List Pair} {n : ℕ} (rest : List Pair) → length es ≤ length l → length l ≤ n → length ps ≤ 20 → Noted es ps l n →
       PlacesOf es ps (record { pairs = l ++ rest })

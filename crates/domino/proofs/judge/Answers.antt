@@ -7,8 +7,5 @@ returns-in_err-base c =
     let p = err_from_is_err_and c.from_residual.result c.from_residual.ensures.1 in
     rw (p.1, p.2) (judge_refused _ _ _ c.in_err-base.ensures)
 
-pub judge_set-requires : goal.judge_set-requires
-judge_set-requires c = c.in_ok-base.ensures.3
-
 pub returns : goal.returns
 returns c = judge_whole _ _ _ c.in_ok-base.ensures _ _ c.judge_set.ensures

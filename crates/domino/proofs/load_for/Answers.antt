@@ -1,5 +1,5 @@
 use Rattle.std.proofs.lemmas.Result.{err_from_is_err_and}
-use Rattle.domino.proofs.Answers.{for_refused, for_short, for_enough}
+use Rattle.domino.proofs.Answers.{for_refused, for_short}
 use Rattle.domino.proofs.load_for.Goals as goal
 
 pub returns-in_err-base : goal.returns-in_err-base
@@ -11,8 +11,3 @@ pub returns-then-words-words_for : goal.returns-then-words-words_for
 returns-then-words-words_for c =
     let l = c.in_ok-base.ensures in
     rw (c.of.ensures.0, c.of.ensures.1) (for_short _ c.args.words _ l.0 l.1 l.2 _ c.words_for.ensures c.if-words-words_for.true)
-
-pub returns : goal.returns
-returns c =
-    let l = c.in_ok-base.ensures in
-    for_enough _ c.args.words _ l.0 l.1 l.2 _ c.words_for.ensures c.if-words-words_for.false

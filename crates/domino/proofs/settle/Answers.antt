@@ -7,8 +7,5 @@ returns-in_err-base c =
     let p = err_from_is_err_and c.from_residual.result c.from_residual.ensures.1 in
     rw (p.1, p.2) (settle-refused _ _ _ c.in_err-base.ensures)
 
-pub settle_set-requires : goal.settle_set-requires
-settle_set-requires c = c.in_ok-base.ensures.3
-
 pub returns : goal.returns
 returns c = settle-whole _ _ _ c.in_ok-base.ensures _ _ c.settle_set.ensures

@@ -15,9 +15,6 @@ returns-then-number-dominoes c =
     strike-past _ _ _ c.in_ok-base.ensures c.args.number _ (ap number c.of.ensures.0) c.of.ensures.1
     (omega (arith, c.dominoes.ensures, c.if-number-dominoes.true))
 
-pub strike_set-verdict-requires : goal.strike_set-verdict-requires
-strike_set-verdict-requires c = (c.in_ok-base.ensures.3, omega (arith, c.dominoes.ensures, c.if-number-dominoes.false))
-
 pub returns : goal.returns
 returns c =
     strike-whole _ _ _ c.in_ok-base.ensures _ c.args.number _

@@ -13,5 +13,5 @@ count-requires c = (omega arith, omega (arith, words-few c.args.base.now.size.pa
 
 pub returns : goal.returns
 returns c = settles (view c.args.base.now) c.args.set.now _ _ _ _ _
-    (are-by c.args.set.now (λ i. grind arith)) c.requires (trimmed _ _ _ _ c.trim.ensures)
+    (are-by c.args.set.now (λ i. grind arith)) c.requires (trimmed _ _ _ _ _ c.domino_bits.ensures c.trim.ensures)
     (kept_in _ _ _ _ _ _ (search rules) c.drop_defective.ensures.kept) (swept_as _ _ _ _ (search rules) c.sweep_all.ensures.swept) c.words_for.ensures c.count.ensures

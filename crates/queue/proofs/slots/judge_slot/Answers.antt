@@ -10,14 +10,14 @@ use Rattle.queue.proofs.slots.judge_slot.Goals as goal
 pub returns-in-Some : goal.returns-in-Some
 returns-in-Some c =
     let slot = c.args.slot.now in
-    let n = c.from_le_bytes-n in
+    let n = c.from-n in
     let found = c.in-Some.ensures.lookup in
     let few : n.result ≤ 765 = grind (arith, common_steps) in
-    slot_judged slot _ _ n.result n.ensures c.in-Some.sheet.now _ few (found.0.2 ∙ sheet-cut slot n.result (omega arith))
+    slot_judged slot _ _ n.result (n.ensures ∙ c.from_le_bytes.ensures) c.in-Some.sheet.now _ few (found.0.2 ∙ sheet-cut slot n.result (omega arith))
     c.judge_alone.ensures
 
 pub returns-in-None : goal.returns-in-None
 returns-in-None c =
-    let n = c.from_le_bytes-n in
+    let n = c.from-n in
     let many : 765 < n.result = grind (arith, common_steps) in
-    slot_refused c.args.slot.now c.args.set.now [] n.result n.ensures c.number.result many c.number.ensures
+    slot_refused c.args.slot.now c.args.set.now [] n.result (n.ensures ∙ c.from_le_bytes.ensures) c.number.result many c.number.ensures

@@ -1,7 +1,7 @@
 -- `domino_defect` meets its contract: the six conditions in their order.
 use Rattle.bitset.specs.Bits.{look}
 use Rattle.domino_conditions.specs.Tables.{view}
-use Rattle.domino_conditions.proofs.Defects.{label-few, sets_few, roles_here, converse_here, member_here, fails-1, fails-2, fails-3, fails-last}
+use Rattle.domino_conditions.proofs.Defects.{label-few, converse_here, member_here, fails-1, fails-2, fails-3, fails-last}
 use Rattle.domino_conditions.proofs.conditions.DominoSet.domino_defect.Goals as goal
 
 pub is_good-requires : goal.is_good-requires
@@ -10,22 +10,13 @@ is_good-requires c = label-few c.args.self.now _ _ _ c.requires
 pub returns-then-not-is_good : goal.returns-then-not-is_good
 returns-then-not-is_good c = fails-1 (view c.args.self.now.base.now) (look c.args.self.now.set.now) _ _ _ _ c.is_good.ensures c.if-not-is_good.true
 
-pub right_fits-requires : goal.right_fits-requires
-right_fits-requires c = sets_few c.args.self.now _ _ _ c.requires
-
 pub returns-then-not-right_fits : goal.returns-then-not-right_fits
 returns-then-not-right_fits c = fails-2 (view c.args.self.now.base.now) (look c.args.self.now.set.now) _ _ _ _ c.is_good.ensures c.if-not-is_good.false
     _ c.right_fits.ensures c.if-not-right_fits.true
 
-pub right_fits-requires-2 : goal.right_fits-requires-2
-right_fits-requires-2 c = sets_few c.args.self.now _ _ _ c.requires
-
 pub returns-then-not-right_fits-2 : goal.returns-then-not-right_fits-2
 returns-then-not-right_fits-2 c = fails-3 (view c.args.self.now.base.now) (look c.args.self.now.set.now) _ _ _ _ c.is_good.ensures c.if-not-is_good.false
     _ c.right_fits.ensures c.if-not-right_fits.false _ c.right_fits-2.ensures c.if-not-right_fits-2.true
-
-pub inverse-requires : goal.inverse-requires
-inverse-requires c = roles_here c.args.self.now _ _ _ c.requires
 
 pub index-converse-requires : goal.index-converse-requires
 index-converse-requires c = converse_here c.args.self.now _ _ _ c.requires _ c.inverse.ensures

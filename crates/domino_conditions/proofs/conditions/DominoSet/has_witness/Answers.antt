@@ -1,10 +1,7 @@
 -- No role set before r, and no right label before b of the run r, gives a witness.
-use mathlib.Core.Path.{refl, sym, ap, ◌∙◌}
+use mathlib.Core.Path.{refl, sym, ◌∙◌}
 use native.Mathlib.Omega.{arith}
-use Rattle.bitset.specs.Bits.{look}
 use Rattle.elimination.proofs.Quantifiers.{some-none, some_more}
-use Rattle.tbox.specs.declared.base.Part.{Part}
-use Rattle.domino_conditions.specs.Tables.{view, role_holds_on_lem}
 use Rattle.domino_conditions.proofs.Rows.{run_room, row_at}
 use Rattle.domino_conditions.proofs.Witnesses.{witness-by, witness_more, in_none, in_end, in_hit, found_none, found_hit}
 use Rattle.domino_conditions.proofs.conditions.DominoSet.has_witness.Goals as goal
@@ -48,14 +45,13 @@ search-preserved c = (
 )
 
 pub returns-after-search : goal.returns-after-search
-returns-after-search c k e =
+returns-after-search c =
     c.search.invariant.0
-    ∙ found_none (view c.args.self.now.base.now) _ _ k _ (role_holds_on_lem c.args.part.now) (λ R. ap (λ (p : Part). look p.role R) e) _ _ c.role_sets-r-end.ensures
-    c.search.auto.r-end c.search-test.false c.search.invariant.1
+    ∙ found_none c.args.self.now c.args.part.now c.args.quantifier c.args.filler c.args.a _ _ c.role_sets-r-end.ensures c.search.auto.r-end c.search-test.false
+    c.search.invariant.1
 
 pub returns-then-is_witness : goal.returns-then-is_witness
-returns-then-is_witness c k e =
-    found_hit (view c.args.self.now.base.now) _ _ k _ (role_holds_on_lem c.args.part.now) (λ R. ap (λ (p : Part). look p.role R) e) _ _ c.role_sets-r-end.ensures
-    c.search-test.true
+returns-then-is_witness c =
+    found_hit c.args.self.now c.args.part.now c.args.quantifier c.args.filler c.args.a _ _ c.role_sets-r-end.ensures c.search-test.true
     (in_hit _ _ _ _ _ _ _ _ _ _ c.labels-labels.ensures c.loop-b-test.true c.member.ensures c.if-member.true
     (sym (witness-by _ _ _ _ _ _ _ _ _ c.index-at.ensures c.is_witness.ensures) ∙ c.if-is_witness.true))

@@ -1,9 +1,9 @@
 use mathlib.Core.Bool.{false≢true}
-use mathlib.Core.Path.{◌≡◌, refl, sym as flip, ap, ◌∙◌}
-use Prim.Native.Nat.{◌+◌, ◌^◌, ◌<◌}
+use mathlib.Core.Path.{refl, sym as flip, ap, ◌∙◌}
+use Prim.Native.Nat.{◌^◌, ◌<◌}
 use native.Mathlib.Omega.{arith}
 use Rattle.bitset.specs.Bits.{look}
-use Rattle.domino_settling.proofs.Converses.{run_place, converse_place, matched_none, match_stay, match_clear, in_run}
+use Rattle.domino_settling.proofs.Converses.{run_place, converse_place, matched_none, match_stay, match_clear}
 use Rattle.domino_settling.proofs.matching.Matching.match_some.Goals.{then-member+then-not-member, else-member, else-member-via-then-member+else-not-member, else-member-via-else-member}
 use Rattle.domino_settling.proofs.matching.Matching.match_some.Goals as goal
 
@@ -33,11 +33,3 @@ loop-b-preserved c = let lb : c.loop-b.b < 2 ^ c.args.self.now.run.size.parts = 
             | else-member-via-else-member u ↦ absurd (false≢true (flip u.if-member.false ∙ c.member.ensures ∙ q))
           ]) c.loop-b.invariant)
     ]
-
-pub invariant_of-self : goal.invariant_of-self
-invariant_of-self c = record { room = omega (arith, c.loop-b.invariant.long, c.args.self.now.room) }
-
-pub returns : goal.returns
-returns c =
-    let e : c.args.from + c.args.count ≡ c.loop-b.b = omega arith in
-    in_run _ _ refl refl (rw e c.loop-b.invariant)

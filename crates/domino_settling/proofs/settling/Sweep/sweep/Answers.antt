@@ -8,9 +8,6 @@ use Rattle.domino_settling.proofs.settling.Sweep.sweep.Goals as goal
 pub loop-a-init : goal.loop-a-init
 loop-a-init c = swept-first _
 
-pub sweep_row-moved-requires : goal.sweep_row-moved-requires
-sweep_row-moved-requires c = rw (c.loop-a.invariant.stays.base) (omega (arith, c.labels-a-end.ensures))
-
 pub loop-a-preserved : goal.loop-a-preserved
 loop-a-preserved c = swept_on _ _ _ _ _ _ c.loop-a.invariant c.sweep_row-moved.ensures
 

@@ -1,6 +1,6 @@
-use Rattle.std.proofs.lemmas.Result.{err_from_is_err_and, on_ok_weaker}
+use Rattle.std.proofs.lemmas.Result.{err_from_is_err_and}
 use Rattle.owl_import.specs.Grammar.{opening}
-use Rattle.owl_import.proofs.Stepping.{begun_stop, begun_then, opening_reads, reads_more, opens_stays}
+use Rattle.owl_import.proofs.Stepping.{begun_stop, begun_then, opening_reads, reads_more}
 use Rattle.owl_import.proofs.parser.Parser.open.Goals as goal
 
 pub returns-in_err-begin-clause-reads : goal.returns-in_err-begin-clause-reads
@@ -12,6 +12,3 @@ pub returns-clause-reads : goal.returns-clause-reads
 returns-clause-reads c =
     begun_then _ _ _ _ _ _ _ _ opening c.in_ok-begin.ensures.reads
     (reads_more _ _ _ _ _ _ (opening_reads _ _ _ c.expect.ensures.reads) (λ _ _ _. tt))
-
-pub returns-clause-opens : goal.returns-clause-opens
-returns-clause-opens c = on_ok_weaker c.expect.result (λ s. opens_stays _ _ _ c.in_ok-begin.ensures.opens s) c.expect.ensures.stays
