@@ -1,5 +1,6 @@
 /*
- * Lodhrussi: sheets of rules, and whether some finite plant of at least one item keeps them. For C99 and later, and for C++.
+ * Lodhrussi: sheets of rules, and whether some finite plant of at least one item keeps them; sheets to and from OWL 2
+ * functional-style syntax. For C99 and later, and for C++.
  *
  * To link: `rt lib` in crates/capi writes crates/capi/out/libcapi.a (x86-64), then
  *
@@ -11,13 +12,14 @@
  *
  * Results. Every call returns the number of its refusal (enum lodhrussi_refusal), 0 for done.
  *   *place is written on a refusal and only then: the byte of the offending reference for 5, 6, 7, 16 and 17, the byte where the
- *   offending record starts for 1 to 4 and 8, and 0 otherwise.
+ *   offending record starts for 1 to 4, 8 and 20, the byte in the text for 18 and 19, and 0 otherwise. Refused by import, 3 has
+ *   place 0 too.
  *   The other numbers (*traits, *size, *verdict, ..) are written when done and only then; *condition only when struck.
- *   A refusal writes nothing to a list or a set.
+ *   A refusal writes nothing to a list, a set or an output.
  *
  * Order of refusals. A sheet is read record by record and the first fault is reported; inside a record 3, 1, 2, 4, then for each
- * reference in turn 5, then 6, 16 or 17, then 7, and last 8; after the last record 9. Then come 10 to 12, for the calls that name
- * them, in the order named there.
+ * reference in turn 5, then 6, 16 or 17, then 7, and last 8; after the last record 9. Then come 10 to 12, 20 and 21, for the calls
+ * that name them, in the order named there.
  *
  * Sets. Pairing number A * 2^(2L+c) + R * 2^c + B has left mark set A, link set R and right mark set B. A set of pairings is a list
  * of 64-bit words; pairing n is bit n mod 64 of word n / 64. Words needed: 2^(2c+2L) / 64, but at least 1: 1 for c + L up to 3,
@@ -26,8 +28,8 @@
  *
  * Pointers. None may be null, also where a length is 0; each must be aligned for its type and point to as many bytes or words as
  * the length beside it says, or to one number. All of it holds a value before the call, also where the call only writes. What is
- * written (list, set, numbers) overlaps nothing else that is handed over. Nothing is kept after the call. Calls on separate memory
- * do not meet: there is no state of the library's own.
+ * written (list, set, output, numbers) overlaps nothing else that is handed over. Nothing is kept after the call. Calls on separate
+ * memory do not meet: there is no state of the library's own.
  */
 #ifndef LODHRUSSI_H
 #define LODHRUSSI_H
@@ -59,7 +61,11 @@ enum lodhrussi_refusal {
     LODHRUSSI_SLOT_TOO_LONG = 14,   /* the queue program's; no call returns it */
     LODHRUSSI_QUEUE_BROKEN = 15,    /* the queue program's; no call returns it */
     LODHRUSSI_CLASS_FOR_LINK = 16,  /* a class where a link is wanted */
-    LODHRUSSI_RULE_NAMED = 17       /* rules are never named */
+    LODHRUSSI_RULE_NAMED = 17,      /* rules are never named */
+    LODHRUSSI_UNKNOWN_WORD = 18,    /* a word of a text that is not known */
+    LODHRUSSI_CANNOT_STAND = 19,    /* a known word or parenthesis that cannot stand there, or a text that ends inside a form */
+    LODHRUSSI_COMPOSED_LINK = 20,   /* a rule with a link that has not, and, or */
+    LODHRUSSI_OUTPUT_TOO_SHORT = 21 /* fewer bytes than are to be written */
 };
 
 /* What a strike finds. */
@@ -124,19 +130,29 @@ static inline const char *lodhrussi_refusal_sentence(uint64_t refusal)
         return "The pairing number is too large: the sheet has no pairing of that number.";
     case LODHRUSSI_LIST_TOO_SHORT:
         return "The list is too short: each of the sheet's marks takes three bytes.";
+    case LODHRUSSI_UNKNOWN_WORD:
+        return "The word is not known.";
+    case LODHRUSSI_CANNOT_STAND:
+        return "The text goes on with what cannot stand there, or ends inside a form.";
+    case LODHRUSSI_COMPOSED_LINK:
+        return "The rule has a link with not, and, or; OWL 2 has no such links.";
+    case LODHRUSSI_OUTPUT_TOO_SHORT:
+        return "The output is too short for what is to be written.";
     default:
         return "No call refuses with this number.";
     }
 }
 
 /*
- * The same with its place, "The record at byte 5 ..", where the refusal has one. Writes at most room bytes to text, a zero at the
- * end included, and answers how long the whole sentence is, as snprintf does; 128 bytes are enough.
+ * The same with its place, "The record at byte 5 ..", where the refusal has one; 3 at 0 is import's. Writes at most room bytes to
+ * text, a zero at the end included, and answers how long the whole sentence is, as snprintf does; 128 bytes are enough.
  */
 static inline int lodhrussi_refusal_text(char *text, size_t room, uint64_t refusal, uint64_t place)
 {
     const char *sentence = lodhrussi_refusal_sentence(refusal);
     int subject = 0; /* so many letters name what the place is of */
+    if (refusal == LODHRUSSI_TOO_MANY_RECORDS && place == 0) /* of a sheet the place is 255 or more */
+        return snprintf(text, room, "The text takes too many records: a sheet has at most 255.");
     switch (refusal) {
     case LODHRUSSI_UNKNOWN_KIND:
     case LODHRUSSI_BODY_CUT_OFF:
@@ -151,6 +167,15 @@ static inline int lodhrussi_refusal_text(char *text, size_t room, uint64_t refus
     case LODHRUSSI_RULE_NAMED:
     case LODHRUSSI_NAMED_AGAIN:
         subject = (int)sizeof "The reference" - 1;
+        break;
+    case LODHRUSSI_UNKNOWN_WORD:
+        subject = (int)sizeof "The word" - 1;
+        break;
+    case LODHRUSSI_CANNOT_STAND:
+        subject = (int)sizeof "The text" - 1;
+        break;
+    case LODHRUSSI_COMPOSED_LINK:
+        subject = (int)sizeof "The rule" - 1;
         break;
     default:
         return snprintf(text, room, "%s", sentence);
@@ -202,6 +227,27 @@ uint64_t lodhrussi_settle(const uint8_t *sheet, size_t n, uint64_t *set, size_t 
  */
 uint64_t lodhrussi_judge(const uint8_t *sheet, size_t n, uint64_t *set, size_t words, uint64_t *place, uint64_t *opening,
                          uint64_t *survivors, uint64_t *met);
+
+/*
+ * Import. Writes the sheet of a text of n bytes into the output of len bytes and answers its length, 765 at most. The text is OWL 2
+ * functional-style syntax of one part (docs/FORMAT.md): axioms SubClassOf(:t0 ObjectComplementOf(:t1)) in a row, with names :t0 to
+ * :t11 and :k0 to :k3; words are parted by spaces or line feeds. Operands come before what uses them, left to right, each use in a
+ * record of its own. Bytes past those written are kept. Whether the sheet has too many marks is left to reading it.
+ * Refuses: the first in the text of 18, a word that is not known, its byte; 19, a known word or parenthesis that cannot stand
+ * there, its byte, or a text that ends inside a form, its length; and 3, over 255 records, 0. Then 21.
+ * Calls nest at most 255 forms deep, and run on a stack of 256 KB.
+ */
+uint64_t lodhrussi_import(const uint8_t *text, size_t n, uint8_t *out, size_t len, uint64_t *place, uint64_t *written);
+
+/*
+ * Export. Writes the rules of a sheet as such a text into the output of len bytes, each in a line SubClassOf(:t0 :t1) with a line
+ * feed and no other spaces, and answers its length, some 12 KB at most. Bytes past those written are kept. Imported again, unless
+ * that is refused 3 or 21, it gives a sheet with the same rules and the same verdict; also the same opening set and survivors if
+ * the sheet's trait and link numbers all occur in rules.
+ * Refuses: as read does; then 20 at the byte where the first rule starts that reaches a link with not, and, or; then 21.
+ * Calls nest at most 255 records deep, and run on a stack of 256 KB.
+ */
+uint64_t lodhrussi_export(const uint8_t *sheet, size_t n, uint8_t *out, size_t len, uint64_t *place, uint64_t *written);
 
 #ifdef __cplusplus
 }

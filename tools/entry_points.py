@@ -14,7 +14,7 @@ from pathlib import Path
 
 ROOT = Path(__file__).resolve().parent.parent
 
-PRODUCT = {"tbox", "domino", "capi", "owl_import"}
+PRODUCT = {"tbox", "domino", "capi", "owl_import", "owl_export"}
 LAYER = {"refusals", "bitset", "records", "flattening", "domino_conditions", "domino_initial", "domino_settling", "report", "console", "output", "owl_words"}
 # Public functions without an ensures, and why.
 WITHOUT_ENSURES = {

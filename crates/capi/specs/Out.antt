@@ -3,6 +3,9 @@
 use Rattle.std.specs.Prelude.{ℕ, ◌+◌, List, [], ◌∷◌, get_or}
 use Rattle.syntax.specs.Reading.{read_kb}
 use Rattle.syntax.specs.Answers.{limit, read_says, list_says, list_leaves}
+use Rattle.output.specs.Output.{output_says, output_leaves}
+use Rattle.owl_import.specs.Import.{imported}
+use Rattle.owl_export.specs.Export.{exported}
 use Rattle.domino.specs.Answers.{open_says, open_leaves, strike_says, strike_leaves, settle_says, settle_leaves, judge_says, judge_leaves}
 
 -- the result: the refusal's number, 0 for done
@@ -53,3 +56,16 @@ judge_said sheet words = judge_says (read_kb limit sheet) words
 
 abbrev pub judge_left : List ℕ → List ℕ → List ℕ
 judge_left sheet words = judge_leaves (read_kb limit sheet) words
+
+-- what import says of a text and export of a sheet, and what each leaves of the bytes that are lent
+abbrev pub import_said : List ℕ → List ℕ → List ℕ
+import_said text out = output_says (imported text) out
+
+abbrev pub import_left : List ℕ → List ℕ → List ℕ
+import_left text out = output_leaves (imported text) out
+
+abbrev pub export_said : List ℕ → List ℕ → List ℕ
+export_said sheet out = output_says (exported sheet) out
+
+abbrev pub export_left : List ℕ → List ℕ → List ℕ
+export_left sheet out = output_leaves (exported sheet) out

@@ -8,6 +8,7 @@ ghost use Rattle.refusals.specs.Numbers.{refusal_numbers};
 ghost use Rattle.domino.specs.Answers.{verdict_is, verdict_numbers};
 ghost use Rattle.capi.specs.Out.{result_out, place_out, value_out};
 ghost use Rattle.capi.specs.Out.{read_said, list_said, list_left, open_said, open_left, strike_said, strike_left, settle_said, settle_left, judge_said, judge_left};
+ghost use Rattle.capi.specs.Out.{import_said, import_left, export_said, export_left};
 
 use domino::Verdict;
 use refusals::Refusal;
@@ -167,6 +168,50 @@ pub extern "C" fn lodhrussi_judge(
             *opening = judgement.opening;
             *survivors = judgement.survivors;
             *met = u64::from(judgement.is_met());
+            0
+        }
+    }
+}
+
+// Import: a text's sheet into the output; how many bytes.
+#[unsafe(no_mangle)]
+pub extern "C" fn lodhrussi_import(
+    text: &[u8],
+    out: &mut [u8],
+    place: &mut u64,
+    written: &mut u64,
+) -> u64
+    ensures value { result ≡ result_out (import_said text.now out.old) }
+    ensures place_after { place.new ≡ place_out (import_said text.now out.old) place.old }
+    ensures written_after { written.new ≡ value_out 0 (import_said text.now out.old) written.old }
+    ensures out_after { out.new ≡ import_left text.now out.old }
+{
+    match owl_import::import(text, out) {
+        Err(refusal) => refuse(refusal, place),
+        Ok(n) => {
+            *written = n as u64;
+            0
+        }
+    }
+}
+
+// Export: a sheet's text into the output; how many bytes.
+#[unsafe(no_mangle)]
+pub extern "C" fn lodhrussi_export(
+    sheet: &[u8],
+    out: &mut [u8],
+    place: &mut u64,
+    written: &mut u64,
+) -> u64
+    ensures value { result ≡ result_out (export_said sheet.now out.old) }
+    ensures place_after { place.new ≡ place_out (export_said sheet.now out.old) place.old }
+    ensures written_after { written.new ≡ value_out 0 (export_said sheet.now out.old) written.old }
+    ensures out_after { out.new ≡ export_left sheet.now out.old }
+{
+    match owl_export::export(sheet, out) {
+        Err(refusal) => refuse(refusal, place),
+        Ok(n) => {
+            *written = n as u64;
             0
         }
     }

@@ -32,7 +32,7 @@ module _ (es : List Entry) (below r : ℕ) where
   none-there l = get_or-eq_default (take below (nodes_of es)) no_node (simp length-take (omega (arith, nodes_length es)))
 
   -- the concept and the role of record r
-  concept_says : (o : Option Node) → NodeBelow es below r o → concept_below es below r ≡ as_concept (formed es r o)
+  pub concept_says : (o : Option Node) → NodeBelow es below r o → concept_below es below r ≡ as_concept (formed es r o)
   unfolding concept_below
   concept_says (Some n) h = concept_is es below r _ h.0 refl ∙ ap as_concept (said n h.2)
   concept_says None (inl l) = concept_past es below r l
@@ -86,7 +86,7 @@ atom_compound es below r false n h (inr (inr (inr (a, b, q)))) = atom_node es be
 -- every other node, by the arms that come before
 module _ (es : List Entry) (r : ℕ) (n : Node) (not : (a : ℕ) → n ≡ Not a → ⊥) (and : (a b : ℕ) → n ≡ And a b → ⊥) (or : (a b : ℕ) → n ≡ Or a b → ⊥)
     (exists : (a b : ℕ) → n ≡ Exists a b → ⊥) (forall : (a b : ℕ) → n ≡ Forall a b → ⊥) where
-  nothing_formed : (n ≡ Everything → ⊥) → ((t : ℕ) → n ≡ Name t → ⊥) → as_concept (formed es r (Some n)) ≡ bottom_c
+  pub nothing_formed : (n ≡ Everything → ⊥) → ((t : ℕ) → n ≡ Name t → ⊥) → as_concept (formed es r (Some n)) ≡ bottom_c
   unfolding node_of
   nothing_formed e m = at n refl
     where

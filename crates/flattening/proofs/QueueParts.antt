@@ -59,7 +59,7 @@ through-guarded k c so = append-nil (parts_by c so)
 
 -- ---- an axiom, or another record
 
-of_kind : (n : Node) → ((a b : ℕ) → n ≡ Axiom a b → ⊥) → node_kind n ≡ 32 → ⊥
+pub of_kind : (n : Node) → ((a b : ℕ) → n ≡ Axiom a b → ⊥) → node_kind n ≡ 32 → ⊥
 of_kind Everything f k = omega arith
 of_kind Nothing f k = omega arith
 of_kind (NameNode t) f k = omega arith

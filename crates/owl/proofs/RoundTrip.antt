@@ -1,13 +1,13 @@
 -- Every sheet that import writes is read without a fault but 9; importing what was exported gives the same axioms written alike.
-use Prim.Native.Nat.{ℕ, suc, ◌+◌, ◌≤◌}
+use Prim.Native.Nat.{ℕ, suc, ◌+◌, ◌≤◌, ◌<◌}
 use mathlib.Core.Path.{◌≡◌, refl, sym, ap, ◌∙◌}
 use mathlib.Core.Bool.{Bool, true, false, cond, ◌||◌}
 use mathlib.Core.Option.{Option, none, some}
 use mathlib.Core.List.{List, [], ◌∷◌, ◌++◌}
-use lib.ListN.{length}
-use lib.Dec.{leb}
+use lib.ListN.{length, drop}
+use lib.Dec.{leb, ltb}
 use native.Mathlib.Omega.{arith}
-use borrow.Author.Tests.{le-leb}
+use borrow.Author.Tests.{ltb-true, ltb-false, le-leb}
 use Rattle.records.specs.Entries.{Entry}
 use Rattle.records.specs.Scan.{State, start, whole, scan_sheet}
 use Rattle.syntax.specs.Concepts.{Role, named, inverse, not_r, and_r, or_r, Concept, top_c, bottom_c, name_c, not_c, and_c, or_c, exists_c, forall_c, Axiom, Node, concept_n, role_n, axiom_n, nodes_of, axiom_of, axioms_of}
@@ -21,7 +21,7 @@ use Rattle.syntax.specs.Laid.{rec_of, rec_bytes, reach}
 use Rattle.owl_import.specs.RecordsOf.{put_axioms}
 use Rattle.owl_export.specs.AxiomText.{axioms_text, composed, has_composed, beyond}
 use Rattle.syntax.specs.WrittenAlike.{bare_axioms, WrittenAlike, axioms_names, axioms_roles, Occurring}
-use Rattle.output.specs.Output.{Output, refuse, write}
+use Rattle.output.specs.Output.{Output, refuse, write, output_says, output_leaves}
 use Rattle.owl_import.specs.Import.{sheet_of, importing, imported}
 use Rattle.owl_export.specs.Export.{calls_for20, first_beyond, export_at, export_of, exporting, exported}
 use Rattle.owl.proofs.Fetching.{Fetched, axioms_fetched}
@@ -195,6 +195,26 @@ round_trip sheet text e =
     go k r (refused n l) q g f = rw f full
     go k r (done l room rest) q g f =
         alike k r (same_axioms l (bare_axioms k.axioms) (sheet_of l) f.0 (sheet-read l g.names g.roles g.plain (omega (arith, g.sized))))
+
+-- "importing what was exported, unless refused 3 or 21": the answer to an output and what is left in it, and no other answer comes
+pub data ImportSays (sheet text out : List ℕ) : List ℕ → List ℕ → Type 0 where
+  full : ImportSays sheet text out (3 ∷ 0 ∷ []) out
+  short : {new : List ℕ} → imported text ≡ write new → Returned sheet (write new) → length out < length new → ImportSays sheet text out (21 ∷ 0 ∷ []) out
+  written : {new : List ℕ} → imported text ≡ write new → Returned sheet (write new) → length new ≤ length out →
+      ImportSays sheet text out (0 ∷ 0 ∷ length new ∷ []) (new ++ drop (length new) out)
+
+pub round_trip_says : (sheet text out : List ℕ) → exported sheet ≡ write text → ImportSays sheet text out (output_says (imported text) out) (output_leaves (imported text) out)
+unfolding output_says output_leaves
+round_trip_says sheet text out e = go (imported text) refl (round_trip sheet text e)
+  where
+    fits : (new : List ℕ) → imported text ≡ write new → Returned sheet (write new) → (b : Bool) → ltb (length out) (length new) ≡ b →
+        ImportSays sheet text out (cond b (21 ∷ 0 ∷ []) (0 ∷ 0 ∷ length new ∷ [])) (cond b out (new ++ drop (length new) out))
+    fits new q w true l = short q w (ltb-true (length out) (length new) l)
+    fits new q w false l = written q w (ltb-false (length out) (length new) l)
+
+    go : (o : Output) → imported text ≡ o → Returned sheet o → ImportSays sheet text out (output_says o out) (output_leaves o out)
+    go o q full = full
+    go o q (alike {new} k r w) = fits new q (alike k r w) (ltb (length out) (length new)) refl
 
 -- "and so the same verdict, opening and survivors whenever the trait and link numbers all occur in rules"
 pub data Kept (k : Kb) : Output → Type 0 where

@@ -43,7 +43,7 @@ imports =
     row " \n" (write []) ∷
     []
 
--- a sheet and what export makes of it; the last has a role with `and` in its second axiom
+-- a sheet and what export makes of it; one has a role with `not` that no axiom reaches, the last one with `and` in its second axiom
 pub record Sheet : Type 0 where
   pub sheet : List ℕ
   pub written : Output
@@ -59,6 +59,7 @@ exports =
     sheet_row complement (write (text "SubClassOf(:t0 ObjectComplementOf(:t1))\n")) ∷
     sheet_row restrictions (write (text "SubClassOf(ObjectSomeValuesFrom(ObjectInverseOf(:k3) owl:Thing) ObjectAllValuesFrom(:k0 owl:Nothing))\n")) ∷
     sheet_row booleans (write (text "SubClassOf(ObjectIntersectionOf(:t0 :t11) ObjectUnionOf(:t0 :t0))\n")) ∷
+    sheet_row (0x03 ∷ 0x00 ∷ 0x10 ∷ 0x00 ∷ 0x12 ∷ 0x01 ∷ 0x20 ∷ 0x00 ∷ 0x00 ∷ []) (write (text "SubClassOf(:t0 :t0)\n")) ∷
     sheet_row (0x03 ∷ 0x00 ∷ 0x04 ∷ 0x00 ∷ 0x05 ∷ 0x01 ∷ 0x01 ∷ []) (refuse 7 6) ∷
     sheet_row (0x01 ∷ 0x10 ∷ 0x00 ∷ 0x10 ∷ 0x01 ∷ 0x13 ∷ 0x01 ∷ 0x02 ∷ 0x07 ∷ 0x03 ∷ 0x00 ∷ 0x20 ∷ 0x00 ∷ 0x00 ∷ 0x20 ∷ 0x00 ∷ 0x04 ∷ []) (refuse 20 14) ∷
     []

@@ -1,20 +1,21 @@
--- A sheet that is read is its records laid one after another, and well-formed records, laid, are read back as themselves.
+-- A sheet that is read is its records, well-formed, laid one after another; and well-formed records, laid, are read back as themselves.
 use Prim.Native.Nat.{ℕ, zero, suc, ◌+◌, ◌-◌, ◌≤◌, ◌<◌}
 use mathlib.Core.Path.{◌≡◌, refl, sym, ap, ◌∙◌}
 use mathlib.Core.Bool.{Bool, true, false, cond}
 use mathlib.Core.List.{List, [], ◌∷◌, ◌++◌, append_assoc, append-nil, map, map-append}
-use lib.ListN.{length, get_or, take, drop, set, length-append, length-take}
+use lib.ListN.{length, get_or, take, drop, set, length-append, length-map, length-take}
 use lib.Seq.{get_or-append-add, take-add, drop-cons, take_all, map-set_same}
-use lib.Dec.{eqb, leb, ltb}
+use lib.Dec.{eqb, leb}
 use native.Mathlib.Omega.{arith}
 use native.Mathlib.Nat.{add-zero}
 use native.Mathlib.Numerals.{add-one}
-use borrow.Author.Tests.{eqb-true, eqb-false, ltb-true, ltb-false, lt-ltb, le-ltb, le-leb, ne_eqb}
-use Rattle.records.specs.Shapes.{Shape}
+use borrow.Author.Tests.{lt-ltb, le-ltb, le-leb, lt-leb, ne_eqb}
 use Rattle.records.specs.Entries.{Entry}
 use Rattle.records.specs.Shapes.{shape_of}
-use Rattle.records.specs.Scan.{State, start, blank, record_at_lem, naming, name, fault_at_lem, body_fault, entry_for, after, body_byte_lem, shape_at, record_fault, record_after, fault_place, refused, whole, scan, scan_sheet}
+use Rattle.records.specs.Scan.{State, start, blank, record_at_lem, naming, name, entry_for, after, body_byte_lem, shape_at, record_fault, record_after, whole, scan, scan_sheet}
 use Rattle.records.proofs.KindTable.{known_cases}
+use Rattle.records.proofs.Faultless.{body_at, record_right, scan-keeps}
+use Rattle.syntax.proofs.Formed.{read_formed}
 use Rattle.syntax.specs.Laid.{Rec, rec, rec_of, rec_bytes, laid, Sound, next_by, reach, Follows, WellFormed}
 
 body-short : (k : ℕ) → ((shape_of k).sort ≡ 0 → ⊥) → (shape_of k).body ≤ 2
@@ -179,46 +180,51 @@ laid-next sheet st k a b n h e i =
     shift = omega arith
 
 laid-step : (sheet : List ℕ) (st : State) → st.at < length sheet → (record_fault sheet st).number ≡ 0 → IsLaid sheet st → IsLaid sheet (record_after sheet st)
-unfolding record_fault record_after rec_bytes
-laid-step sheet st l p i = go (eqb (shape.sort) 0) refl (ltb (length sheet - (st.at + 1)) (shape.body)) refl p
-  where
-    shape : Shape
-    shape = shape_at sheet st.at
-
-    go : (b : Bool) → eqb (shape.sort) 0 ≡ b → (c : Bool) → ltb (length sheet - (st.at + 1)) (shape.body) ≡ c →
-        (cond b (fault_at_lem 0 1) (cond c (fault_at_lem 0 2) (body_fault st.records shape (body_byte_lem sheet st.at shape 1) (body_byte_lem sheet st.at shape 2)))).number ≡ 0 →
-        IsLaid sheet (after st (get_or sheet st.at 0) (body_byte_lem sheet st.at shape 1) (body_byte_lem sheet st.at shape 2))
-    go true q c r p = absurd (omega arith)
-    go false q true r p = absurd (omega arith)
-    go false q false r p =
-        let n = eqb-false (shape.sort) 0 q in
-        let m : shape.body ≤ length sheet - (st.at + 1) = ltb-false _ _ r in
-        let h : st.at + 1 + shape.body ≤ length sheet = omega arith in
-        laid-next sheet st (get_or sheet st.at 0) (body_byte_lem sheet st.at shape 1) (body_byte_lem sheet st.at shape 2) n h
-        (bytes-at sheet st.at (shape.body) (body-short (get_or sheet st.at 0) n) h) i
-
-scan-whole : (sheet : List ℕ) (room : ℕ) (st u : State) → IsLaid sheet st → scan room sheet st ≡ whole u → laid (map rec_of (u.records)) ≡ sheet
-unfolding scan
-scan-whole sheet zero st u i e = go (ltb st.at (length sheet)) refl e
-  where
-    go : (b : Bool) → ltb st.at (length sheet) ≡ b → cond b (refused 3 st.at) (whole st) ≡ whole u → laid (map rec_of (u.records)) ≡ sheet
-    go true q p = let z : ◌≡◌ {A = ℕ} 0 1 = cc in absurd (omega arith)
-    go false q p =
-        let h : st ≡ u = cc in
-        rw (← h) (i.are ∙ take_all st.at sheet (ltb-false st.at (length sheet) q))
-scan-whole sheet (suc room) st u i e =
-    go (ltb st.at (length sheet)) refl (eqb (record_fault sheet st).number 0) refl (λ l q. scan-whole sheet room (record_after sheet st) u (laid-step sheet st l q i)) e
-  where
-    go : (b : Bool) → ltb st.at (length sheet) ≡ b → (c : Bool) → eqb (record_fault sheet st).number 0 ≡ c →
-        (st.at < length sheet → (record_fault sheet st).number ≡ 0 → scan room sheet (record_after sheet st) ≡ whole u → laid (map rec_of (u.records)) ≡ sheet) →
-        cond b (cond c (scan room sheet (record_after sheet st)) (refused (record_fault sheet st).number (fault_place st (record_fault sheet st)))) (whole st) ≡ whole u → laid (map rec_of (u.records)) ≡ sheet
-    go true q true r f p = f (ltb-true st.at (length sheet) q) (eqb-true (record_fault sheet st).number 0 r) p
-    go true q false r f p = let z : ◌≡◌ {A = ℕ} 0 1 = cc in absurd (omega arith)
-    go false q c r f p =
-        let h : st ≡ u = cc in
-        rw (← h) (i.are ∙ take_all st.at sheet (ltb-false st.at (length sheet) q))
+unfolding record_after rec_bytes
+laid-step sheet st l p i =
+    let w = record_right sheet st p in
+    let h : st.at + 1 + (shape_at sheet st.at).body ≤ length sheet = omega (arith, w.1) in
+    laid-next sheet st (get_or sheet st.at 0) (body_at sheet st 1) (body_at sheet st 2) w.0 h
+    (bytes-at sheet st.at (shape_at sheet st.at).body (body-short (get_or sheet st.at 0) w.0) h) i
 
 -- a sheet that is read is laid of its records
 pub laid-read : (sheet : List ℕ) (st : State) → scan_sheet sheet ≡ whole st → laid (map rec_of st.records) ≡ sheet
 unfolding scan_sheet laid
-laid-read sheet st e = scan-whole sheet 255 start st (record { within = omega arith; are = refl }) e
+laid-read sheet st e =
+    let w = scan-keeps (λ room u. IsLaid sheet u) sheet (λ room u. laid-step sheet u) 255 start st (record { within = omega arith; are = refl }) e in
+    w.1.are ∙ take_all st.at sheet w.2
+
+-- a body byte that is not there is 0
+byte-none : (sheet : List ℕ) (st : State) (i : ℕ) → (shape_at sheet st.at).body < i → body_at sheet st i ≡ 0
+byte-none sheet st i h = rw (lt-leb i (shape_at sheet st.at).body h)
+
+abbrev rec_at : List ℕ → State → Rec
+rec_at sheet st = rec (get_or sheet st.at 0) (body_at sheet st 1) (body_at sheet st 2)
+
+-- a record without fault may follow what was read
+record-sound : (sheet : List ℕ) (st : State) → (record_fault sheet st).number ≡ 0 → Sound st (rec_at sheet st)
+record-sound sheet st p =
+    let w = record_right sheet st p in
+    record { known = w.0; right = w.2; first = λ h. byte-none sheet st 1 (omega arith); second = λ h. byte-none sheet st 2 (omega arith) }
+
+-- the records that were read may follow one another, and again make the state, marks and all
+record IsSound (st : State) : Type 0 where
+  sound : Follows start (map rec_of st.records)
+  again : reach start (map rec_of st.records) ≡ st
+
+sound-next : (st : State) (r : Rec) → Sound st r → IsSound st → IsSound (next_by st r)
+unfolding Follows reach
+sound-next st r s i =
+    let e : map rec_of (next_by st r).records ≡ map rec_of st.records ++ (r ∷ []) = recs-after st r.kind r.first r.second in
+    record {
+      sound = rw e (follows-append start (map rec_of st.records) (r ∷ []) i.sound (rw i.again (s, tt)));
+      again = rw e (reach-append start (map rec_of st.records) (r ∷ []) ∙ ap (λ (u : State). next_by u r) i.again);
+    }
+
+-- a sheet that is read has well-formed records
+pub read_well-formed : (sheet : List ℕ) (st : State) → scan_sheet sheet ≡ whole st → WellFormed (map rec_of st.records)
+unfolding scan_sheet record_after Follows reach
+read_well-formed sheet st e =
+    let w = scan-keeps (λ room u. IsSound u) sheet (λ room u l p. sound-next u (rec_at sheet u) (record-sound sheet u p)) 255 start st
+    (record { sound = tt; again = refl }) e in
+    record { few = omega (arith, (read_formed sheet st e).few, length-map st.records rec_of); sound = w.1.sound }

@@ -6,37 +6,11 @@ use mathlib.Core.List.{List, map}
 use lib.ListN.{length, get_or, set, get_or-map, length-set}
 use lib.Seq.{set_out, map-set_same}
 use lib.Dec.{eqb}
-use native.Mathlib.Omega.{arith}
 use borrow.Author.Tests.{eq-eqb, eqb-true, ne_eqb, le-leb, lt-leb, lt-ltb, le-ltb}
-use Rattle.refusals.specs.Numbers.{number}
-use Rattle.refusals.specs.declared.Reason.{Reason}
-use Rattle.refusals.specs.declared.Reason.TheVariants.{UnknownKind, BodyCutOff, TooManyRecords, NumberTooLarge, NotEarlier, RoleForConcept, NamedAgain, EmptyRoles, TooManyParts, SetTooShort, NoSuchDomino, ListTooShort, SlotTooLong, QueueCutOff, ConceptForRole, AxiomNamed, UnknownWord, MisplacedWord, OutputTooShort}
 use Rattle.records.specs.Entries.{Entry}
 use Rattle.records.specs.Shapes.{Shape}
 use Rattle.records.specs.Shapes.{shape_of}
 use Rattle.records.specs.Scan.{Fault, State, blank, record_at_lem, fault_at_lem, or_else, name, naming, sort_fault_lem, again_fault_lem, reference_fault_lem, number_fault_lem, empty_fault_lem, body_fault, record_fault, body_byte_lem}
-
--- a reason's number is not 0
-pub number-some : (r : Reason) → number r ≡ 0 → ⊥
-number-some UnknownKind e = omega arith
-number-some BodyCutOff e = omega arith
-number-some TooManyRecords e = omega arith
-number-some NumberTooLarge e = omega arith
-number-some NotEarlier e = omega arith
-number-some RoleForConcept e = omega arith
-number-some NamedAgain e = omega arith
-number-some EmptyRoles e = omega arith
-number-some TooManyParts e = omega arith
-number-some SetTooShort e = omega arith
-number-some NoSuchDomino e = omega arith
-number-some ListTooShort e = omega arith
-number-some SlotTooLong e = omega arith
-number-some QueueCutOff e = omega arith
-number-some ConceptForRole e = omega arith
-number-some AxiomNamed e = omega arith
-number-some UnknownWord e = omega arith
-number-some MisplacedWord e = omega arith
-number-some OutputTooShort e = omega arith
 
 -- ---- naming a record
 

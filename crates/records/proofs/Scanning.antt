@@ -19,7 +19,8 @@ use Rattle.records.specs.Nodes.{node_kind, node_first, node_second, entry_of, by
 use Rattle.records.specs.RecordTable.{state_of, Refuses, both_named, Scans}
 use Rattle.records.specs.declared.Progress.{Progress}
 use Rattle.records.specs.declared.nodes.Node.{Node}
-use Rattle.records.proofs.Faults.{number-some, name-long, unknown-kind, cut_off, of_body}
+use Rattle.refusals.proofs.Numbering.{number_not_zero}
+use Rattle.records.proofs.Faults.{name-long, unknown-kind, cut_off, of_body}
 use Rattle.records.proofs.Telling.{vacuous-same, both-vacuous}
 
 pub both-long : (es : List Entry) (w x a b : ℕ) → length (name (name es w a) x b) ≡ length es
@@ -137,7 +138,7 @@ module _ (sheet : List ℕ) (es : List Entry) (p : Progress) (i : Running sheet 
       refused (number r.reason) r.place ≡ scan_sheet sheet
   running_fault r t l n =
       rw (t.0, t.1)
-      (sym (scan-fault sheet (state_of es p) (254 - length es) _ l refl (λ z. number-some r.reason (t.0 ∙ z))) ∙ from (suc (254 - length es)) (omega (arith, i.count)))
+      (sym (scan-fault sheet (state_of es p) (254 - length es) _ l refl (λ z. number_not_zero r.reason (t.0 ∙ z))) ∙ from (suc (254 - length es)) (omega (arith, i.count)))
 
   pub running_next : (us : List Entry) (q : Progress) → (record_fault sheet (state_of es p)).number ≡ 0 →
       state_of us q ≡ record_after sheet (state_of es p) → p.at < length sheet → (length es ≡ 255 → ⊥) → Running sheet us q

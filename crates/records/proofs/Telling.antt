@@ -8,7 +8,8 @@ use Rattle.records.specs.Kinds.{wanted_no, sort_no}
 use Rattle.records.specs.RecordTable.{Refuses, Tells}
 use Rattle.records.specs.declared.shapes.Sort.{Sort}
 use Rattle.records.specs.declared.shapes.Sort.TheVariants.{Concept, Role, Axiom}
-use Rattle.records.proofs.Faults.{number-some, name-keeps, second, body-number, body-first, body_second, body_last}
+use Rattle.refusals.proofs.Numbering.{number_not_zero}
+use Rattle.records.proofs.Faults.{name-keeps, second, body-number, body-first, body_second, body_last}
 use native.Mathlib.Omega.{arith}
 
 pub sort_some : (s : Sort) → sort_no s ≡ 0 → ⊥
@@ -43,15 +44,15 @@ vacuous-same es us k a b h = rw (h a, h b)
 -- the first fault of a body, by the test that fails
 module _ (es : List Entry) (s : Shape) (a b at : ℕ) where
   pub tells-number : (r : Refusal) → Refuses at (fault_at_lem 0 (number_fault_lem s a)) r → Refuses at (body_fault es s a b) r
-  tells-number r t = rw (← body-number es s a b (λ z. number-some r.reason (t.0 ∙ z))) t
+  tells-number r t = rw (← body-number es s a b (λ z. number_not_zero r.reason (t.0 ∙ z))) t
 
   module _ (n : number_fault_lem s a ≡ 0) where
     pub tells-one : (r : Refusal) → Refuses at (fault_at_lem 1 (reference_fault_lem es s.first a)) r → Refuses at (body_fault es s a b) r
-    tells-one r t = rw (← body-first es s a b n (λ z. number-some r.reason (t.0 ∙ z))) t
+    tells-one r t = rw (← body-first es s a b n (λ z. number_not_zero r.reason (t.0 ∙ z))) t
 
     module _ (f : reference_fault_lem es s.first a ≡ 0) where
       pub tells_two : (r : Refusal) → Refuses at (fault_at_lem 2 (second es s a b)) r → Refuses at (body_fault es s a b) r
-      tells_two r t = rw (← body_second es s a b n f (λ z. number-some r.reason (t.0 ∙ z))) t
+      tells_two r t = rw (← body_second es s a b n f (λ z. number_not_zero r.reason (t.0 ∙ z))) t
 
       pub tells_empty : (r : Result Unit Refusal) → second es s a b ≡ 0 → Tells at (fault_at_lem 0 (empty_fault_lem es s a)) r → Tells at (body_fault es s a b) r
       tells_empty r g t = rw (← body_last es s a b n f g) t

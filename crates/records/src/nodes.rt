@@ -61,6 +61,19 @@ impl Node {
         )
     }
 
+    // How many bytes the record has after its kind byte.
+    #[tactic(auto, unfolding(crate::specs::Shapes::shape_of))]
+    pub fn body(self) -> usize
+        ensures { result ≡ (shape_of (node_kind self)).body }
+    {
+        match self {
+            Node::Everything | Node::Nothing => 0,
+            Node::Name(_) | Node::Not(_) | Node::Role(_) | Node::Inverse(_) | Node::RoleNot(_) => 1,
+            Node::And(_, _) | Node::Or(_, _) | Node::Exists(_, _) | Node::Forall(_, _) => 2,
+            Node::RoleAnd(_, _) | Node::RoleOr(_, _) | Node::Axiom(_, _) => 2,
+        }
+    }
+
     // The first number of the record's body, 0 where it has none.
     // 0 and no `None`, as in the definitions' entries.
     pub fn first(self) -> u8

@@ -1,10 +1,10 @@
--- Laws of the refusals' numbers: no two reasons share one, and each number up to 21 but 0, 13 and 20 is some reason's.
+-- Laws of the refusals' numbers: no two reasons share one, and each number up to 21 but 0 and 13 is some reason's.
 use Rattle.std.specs.Prelude.{ℕ, ◌≡◌, ◌≤◌, ◌≢◌, cond, eqb, refl}
 use Rattle.std.proofs.Common.{sym, ap, ◌∙◌, arith}
 use Rattle.std.proofs.lemmas.Bool.Decides.{nat_tests}
 use Rattle.refusals.specs.Numbers.{number}
 use Rattle.refusals.specs.declared.Reason.{Reason}
-use Rattle.refusals.specs.declared.Reason.TheVariants.{UnknownKind, BodyCutOff, TooManyRecords, NumberTooLarge, NotEarlier, RoleForConcept, NamedAgain, EmptyRoles, TooManyParts, SetTooShort, NoSuchDomino, ListTooShort, SlotTooLong, QueueCutOff, ConceptForRole, AxiomNamed, UnknownWord, MisplacedWord, OutputTooShort}
+use Rattle.refusals.specs.declared.Reason.TheVariants.{UnknownKind, BodyCutOff, TooManyRecords, NumberTooLarge, NotEarlier, RoleForConcept, NamedAgain, EmptyRoles, TooManyParts, SetTooShort, NoSuchDomino, ListTooShort, SlotTooLong, QueueCutOff, ConceptForRole, AxiomNamed, UnknownWord, MisplacedWord, ComposedRole, OutputTooShort}
 
 -- the reason of a number, from a list of reasons in the order of their numbers
 abbrev reason_of : ℕ → Reason
@@ -27,7 +27,8 @@ reason_of n =
     (cond (eqb n 17) AxiomNamed
     (cond (eqb n 18) UnknownWord
     (cond (eqb n 19) MisplacedWord
-    OutputTooShort)))))))))))))))))
+    (cond (eqb n 20) ComposedRole
+    OutputTooShort))))))))))))))))))
 
 reason_of-number : (r : Reason) → reason_of (number r) ≡ r
 reason_of-number UnknownKind = refl
@@ -48,13 +49,14 @@ reason_of-number ConceptForRole = refl
 reason_of-number AxiomNamed = refl
 reason_of-number UnknownWord = refl
 reason_of-number MisplacedWord = refl
+reason_of-number ComposedRole = refl
 reason_of-number OutputTooShort = refl
 
 pub number_injective : (a b : Reason) → number a ≡ number b → a ≡ b
 number_injective a b e = sym (reason_of-number a) ∙ ap reason_of e ∙ reason_of-number b
 
-pub number_some : (n : ℕ) → 1 ≤ n → n ≤ 21 → n ≢ 13 → n ≢ 20 → (r : Reason) × (number r ≡ n)
-number_some n low high not_13 not_20 = (reason_of n, number_reason_of)
+pub number_some : (n : ℕ) → 1 ≤ n → n ≤ 21 → n ≢ 13 → (r : Reason) × (number r ≡ n)
+number_some n low high not_13 = (reason_of n, number_reason_of)
   where
     number_reason_of : number (reason_of n) ≡ n
     number_reason_of = grind (arith, nat_tests)

@@ -4,7 +4,7 @@
 ghost use Rattle.std.specs.Prelude.{◌≡◌};
 ghost use Rattle.refusals.specs.Numbers.{number};
 
-// The reasons, each with the documents' number. 13 was withdrawn (02, N5), and 20 is for exports.
+// The reasons, each with the documents' number. 13 was withdrawn (02, N5).
 #[derive(Clone, Copy, PartialEq, Eq)]
 pub enum Reason {
     UnknownKind = 1,
@@ -25,6 +25,7 @@ pub enum Reason {
     AxiomNamed = 17,
     UnknownWord = 18,
     MisplacedWord = 19,
+    ComposedRole = 20,
     OutputTooShort = 21,
 }
 

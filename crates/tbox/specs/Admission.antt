@@ -3,6 +3,8 @@ use Rattle.std.specs.Prelude.{ℕ, ◌≡◌, List, Result, Ok, Err}
 use Rattle.refusals.specs.Numbers.{number}
 use Rattle.refusals.specs.declared.Refusal.{Refusal}
 use Rattle.records.specs.Entries.{Entry}
+use Rattle.records.specs.RecordTable.{Scans}
+use Rattle.records.specs.declared.Progress.{Progress}
 use Rattle.syntax.specs.Concepts.{nodes_of, axioms_of}
 use Rattle.syntax.specs.Reading.{Kb, refusal, kb, read_kb}
 use Rattle.syntax.specs.Answers.{limit}
@@ -13,7 +15,9 @@ use Rattle.tbox.specs.GoodLabels.{Made}
 abbrev pub kb_admitted : List Entry → Admitted → Kb
 kb_admitted es a = record { names = a.names; roles = a.roles; axioms = axioms_of (nodes_of es) }
 
+-- its records, and the knowledge base and parts that they make
 pub record Reads (sheet : List ℕ) (es : List Entry) (a : Admitted) : Type 0 where
+  pub records : (p : Progress) × Scans sheet es (Ok p)
   pub reading : read_kb limit sheet ≡ kb (kb_admitted es a)
   pub parts : Made es a.names a.parts.items
 

@@ -24,7 +24,7 @@ impl Admitted {
     ghost use Rattle.tbox.specs.Admission.{Admits};
 
     // Reads a sheet into a table of its records.
-    pub(crate) fn read(sheet: &[u8], table: &mut Table) -> Result<Admitted, Refusal>
+    pub fn read(sheet: &[u8], table: &mut Table) -> Result<Admitted, Refusal>
         ensures { Admits sheet.now table.new result }
     {
         let scanned = scan(sheet, table)?;

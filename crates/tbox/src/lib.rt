@@ -13,7 +13,7 @@ use flattening::parts::{Origin, Quantifier};
 use records::table::Table;
 use refusals::{Reason, Refusal};
 
-mod admission;
+pub mod admission;
 pub mod base;
 pub mod loading;
 mod places;

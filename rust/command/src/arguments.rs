@@ -14,6 +14,8 @@ pub enum Question {
     Judge(Judge),
     Show(Show),
     Strike(Strike),
+    Import(Import),
+    Export(Export),
 }
 
 /// How answers are printed.
@@ -56,13 +58,31 @@ pub struct Strike {
     pub names: Option<OsString>,
 }
 
+/// `lodhrussi import`
+#[derive(Clone, Debug, PartialEq, Eq)]
+pub struct Import {
+    pub file: OsString,
+    pub json: bool,
+    pub names: Option<OsString>,
+}
+
+/// `lodhrussi export`
+#[derive(Clone, Debug, PartialEq, Eq)]
+pub struct Export {
+    pub file: OsString,
+    /// The IRI of an ontology that is asked for.
+    pub ontology: Option<String>,
+    pub json: bool,
+    pub names: Option<OsString>,
+}
+
 /// What the arguments after the command's own name ask. The error is a clause
 /// that says what is wrong and where help is.
 pub fn parse(arguments: impl IntoIterator<Item = OsString>) -> Result<Question, String> {
     let mut arguments = arguments.into_iter();
     let wrong = |what: String| Err(format!("{what}; lodhrussi --help tells how to ask"));
     let Some(first) = arguments.next() else {
-        return wrong("name a subcommand: judge, show or strike".into());
+        return wrong("name a subcommand: judge, show, strike, import or export".into());
     };
     let rest = arguments.collect();
     match first.to_str() {
@@ -72,6 +92,8 @@ pub fn parse(arguments: impl IntoIterator<Item = OsString>) -> Result<Question, 
         Some("judge") => of(Topic::Judge, rest, judge),
         Some("show") => of(Topic::Show, rest, show),
         Some("strike") => of(Topic::Strike, rest, strike),
+        Some("import") => of(Topic::Import, rest, import),
+        Some("export") => of(Topic::Export, rest, export),
         _ if is_option(&first) => wrong(format!("there is no option {}", first.display())),
         _ => wrong(format!("there is no subcommand '{}'", first.display())),
     }
@@ -127,12 +149,25 @@ fn judge(given: Given) -> Result<Question, String> {
 }
 
 fn show(mut given: Given) -> Result<Question, String> {
-    let file = given.file()?;
-    if !given.operands.is_empty() {
-        return Err("name one FILE and no more".into());
-    }
     Ok(Question::Show(Show {
-        file,
+        file: given.only_file()?,
+        json: given.json,
+        names: given.names,
+    }))
+}
+
+fn import(mut given: Given) -> Result<Question, String> {
+    Ok(Question::Import(Import {
+        file: given.only_file()?,
+        json: given.json,
+        names: given.names,
+    }))
+}
+
+fn export(mut given: Given) -> Result<Question, String> {
+    Ok(Question::Export(Export {
+        file: given.only_file()?,
+        ontology: given.ontology,
         json: given.json,
         names: given.names,
     }))
@@ -183,6 +218,7 @@ struct Given {
     json: bool,
     jobs: Option<NonZeroUsize>,
     names: Option<OsString>,
+    ontology: Option<String>,
     operands: VecDeque<OsString>,
 }
 
@@ -223,6 +259,10 @@ impl Given {
                 let value = value.or_else(|| following.pop_front());
                 self.names = Some(value.ok_or("--names wants a FILE after it")?);
             }
+            (Some("--ontology"), _) if topic == Topic::Export => {
+                let value = value.or_else(|| following.pop_front());
+                self.ontology = Some(iri(value.as_deref())?);
+            }
             _ => return Err(format!("there is no option {}", argument.display())),
         }
         Ok(())
@@ -234,6 +274,15 @@ impl Given {
         match named.filter(|file| *file == "-").count() {
             0 | 1 => Ok(()),
             _ => Err("standard input (-) can be read only once".into()),
+        }
+    }
+
+    /// The operand, which is one.
+    fn only_file(&mut self) -> Result<OsString, String> {
+        let file = self.file()?;
+        match self.operands.is_empty() {
+            true => Ok(file),
+            false => Err("name one FILE and no more".into()),
         }
     }
 
@@ -255,6 +304,26 @@ fn split(argument: &OsStr) -> (OsString, Option<OsString>) {
 fn jobs(value: Option<&OsStr>) -> Result<NonZeroUsize, String> {
     let number = value.and_then(digits).and_then(|text| text.parse().ok());
     number.ok_or_else(|| "--jobs wants a number from 1 after it".into())
+}
+
+/// The value of `--ontology`: a scheme, a colon, and what may stand in an IRI.
+fn iri(value: Option<&OsStr>) -> Result<String, String> {
+    const WANTED: &str = "--ontology wants an IRI such as http://example.org/coil after it";
+    let value = value.ok_or(WANTED)?;
+    let is_iri = |text: &&str| {
+        let may_stand = |c: char| !c.is_control() && !" <>\"{}|\\^`".contains(c);
+        let in_scheme = |c: char| c.is_ascii_alphanumeric() || "+-.".contains(c);
+        text.split_once(':').is_some_and(|(scheme, rest)| {
+            scheme.starts_with(|c: char| c.is_ascii_alphabetic())
+                && scheme.chars().all(in_scheme)
+                && !rest.is_empty()
+                && rest.chars().all(may_stand)
+        })
+    };
+    match value.to_str().filter(is_iri) {
+        Some(iri) => Ok(iri.into()),
+        None => Err(format!("'{}' is no IRI; {WANTED}", value.display())),
+    }
 }
 
 #[cfg(test)]
@@ -285,6 +354,8 @@ mod tests {
             ("judge --help", help(Topic::Judge)),
             ("show x -h", help(Topic::Show)),
             ("strike --help", help(Topic::Strike)),
+            ("help import", help(Topic::Import)),
+            ("export --help --ontology a:b", help(Topic::Export)),
             ("--version", Ok(Question::Version)),
             ("-V", Ok(Question::Version)),
         ];
@@ -333,6 +404,28 @@ mod tests {
         };
         let line = format!("strike f 32 000 {}", u64::MAX);
         assert_eq!(asked(&line), Ok(Question::Strike(strike)));
+        let import = Import {
+            file: "f".into(),
+            json: true,
+            names: Some("n".into()),
+        };
+        let line = "import --json --names n f";
+        assert_eq!(asked(line), Ok(Question::Import(import)));
+        let export = |ontology: Option<&str>| Export {
+            file: "-".into(),
+            ontology: ontology.map(String::from),
+            json: false,
+            names: None,
+        };
+        let iri = "http://a.example/b=c#";
+        let rows = [
+            ("export -".to_string(), export(None)),
+            (format!("export --ontology {iri} -"), export(Some(iri))),
+            (format!("export - --ontology={iri}"), export(Some(iri))),
+        ];
+        for (line, expected) in rows {
+            assert_eq!(asked(&line), Ok(Question::Export(expected)), "{line}");
+        }
     }
 
     /// Asserts what is said of lines that begin so, and where help is.
@@ -352,7 +445,10 @@ mod tests {
     #[test]
     fn no_subcommand() {
         let rows = [
-            ("", "name a subcommand: judge, show or strike"),
+            (
+                "",
+                "name a subcommand: judge, show, strike, import or export",
+            ),
             ("weigh f", "there is no subcommand 'weigh'"),
             ("-", "there is no subcommand '-'"),
             ("help me", "there is no subcommand 'me'"),
@@ -392,6 +488,12 @@ mod tests {
             ("- --names=-", "standard input (-) can be read only once"),
         ];
         assert_wrong("show", &rows);
+        assert_wrong("import", &rows);
+        assert_wrong("export", &rows);
+        assert_wrong(
+            "import",
+            &[("--ontology a:b f", "there is no option --ontology")],
+        );
         let too_large = "18446744073709551616 is too large for a number of a pairing";
         let rows = [
             ("", "name a FILE, or - for standard input"),
@@ -402,6 +504,29 @@ mod tests {
             ("f 18446744073709551616", too_large),
         ];
         assert_wrong("strike", &rows);
+    }
+
+    #[test]
+    fn what_is_no_iri() {
+        let wanted = "--ontology wants an IRI such as http://example.org/coil after it";
+        assert_wrong("export", &[("f --ontology", wanted)]);
+        let none = [
+            "coil", "coil.hex", ":a", "1a:b", "a:", "a:b<c", "a:b\"", "a_b:c",
+        ];
+        for iri in none {
+            let sentence = format!("'{iri}' is no IRI; {wanted}");
+            assert_wrong("export", &[(&format!("f --ontology {iri}"), &sentence)]);
+            assert_wrong("export", &[(&format!("--ontology={iri} f"), &sentence)]);
+        }
+        for iri in [
+            "a:b",
+            "urn:x-1:c",
+            "http://a.example/b#",
+            "file:///K\u{fc}hler",
+        ] {
+            let asked = asked(&format!("export f --ontology={iri}"));
+            assert!(matches!(asked, Ok(Question::Export(_))), "{iri}");
+        }
     }
 
     #[test]

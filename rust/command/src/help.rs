@@ -7,10 +7,18 @@ pub enum Topic {
     Judge,
     Show,
     Strike,
+    Import,
+    Export,
 }
 
 impl Topic {
-    pub const SUBCOMMANDS: [Topic; 3] = [Topic::Judge, Topic::Show, Topic::Strike];
+    pub const SUBCOMMANDS: [Topic; 5] = [
+        Topic::Judge,
+        Topic::Show,
+        Topic::Strike,
+        Topic::Import,
+        Topic::Export,
+    ];
 
     /// The subcommand as it is typed; nothing for the whole.
     pub fn word(self) -> &'static str {
@@ -19,6 +27,8 @@ impl Topic {
             Topic::Judge => "judge",
             Topic::Show => "show",
             Topic::Strike => "strike",
+            Topic::Import => "import",
+            Topic::Export => "export",
         }
     }
 
@@ -29,6 +39,8 @@ impl Topic {
             Topic::Judge => JUDGE,
             Topic::Show => SHOW,
             Topic::Strike => STRIKE,
+            Topic::Import => return [IMPORT, NAMES, STATUS].concat(),
+            Topic::Export => EXPORT,
         };
         [own, NAMES, SHEETS, STATUS].concat()
     }
@@ -41,6 +53,8 @@ finite plant of at least one item, or by none.
     lodhrussi judge FILE...            whether the sheets can be met
     lodhrussi show FILE                what a sheet says, record by record
     lodhrussi strike FILE NUMBER...    why pairings of a sheet cannot stand
+    lodhrussi import FILE              the sheet of an OWL text
+    lodhrussi export FILE              the rules of a sheet as OWL text
 
     lodhrussi SUBCOMMAND --help        more about one of them
     lodhrussi --version
@@ -96,6 +110,42 @@ Example:
     lodhrussi strike sheets/s1.hex 32 34
 ";
 
+const IMPORT: &str = "\
+lodhrussi import [OPTION...] FILE
+
+Prints the sheet of an OWL text as hex text: a record a line, with what it
+stands for in a comment. The text is OWL 2 functional-style syntax, of this
+part: axioms SubClassOf(C D) in a row; for C and D :t0 to :t11, owl:Thing,
+owl:Nothing, ObjectComplementOf(C), ObjectIntersectionOf(C D),
+ObjectUnionOf(C D), ObjectSomeValuesFrom(R C), ObjectAllValuesFrom(R C); for R
+:k0 to :k3 and ObjectInverseOf(:k0). Words are parted by spaces or line feeds.
+
+    --json          print one object, for programs
+    --names FILE    the trade's own words, for the comments
+
+A FILE is OWL text; - is standard input.
+
+Example:
+    lodhrussi import sheets/coil.ofn
+";
+
+const EXPORT: &str = "\
+lodhrussi export [OPTION...] FILE
+
+Prints the rules of a sheet as OWL text, a line each: what lodhrussi import
+reads. A rule with a link that has not, and, or is refused: OWL 2 has no such
+links.
+
+    --ontology IRI  print an ontology of that IRI, which Protege and Konclude
+                    open as it is: prefixes, and declarations of the classes
+                    and object properties used; lodhrussi reads no ontologies
+    --json          print one object, for programs
+    --names FILE    the trade's own words, for the picture of a refusal
+
+Example:
+    lodhrussi export --ontology http://example.org/coil sheets/coil.hex
+";
+
 const NAMES: &str = "
 Names stand in a file of lines such as 't0 = reheat coil' and 'k0 = feeds'.
 Without --names the file beside the sheet is read if it is there: for
@@ -103,14 +153,15 @@ sheets/coil.hex that is sheets/coil.names.
 ";
 
 const SHEETS: &str = "
-A FILE is hex text (pairs of hex digits, blanks, # comments) or a sheet's raw
-bytes; - is standard input.
+A FILE is OWL text if its first word is SubClassOf, Prefix or Ontology; else hex
+text (pairs of hex digits, blanks, # comments) or a sheet's raw bytes; - is
+standard input.
 ";
 
 const STATUS: &str = "
 Exit status: 0 every sheet can be met, or the question is answered; 1 a sheet
-cannot be met; 2 a sheet or a number is refused; 3 trouble with a file, the
-arguments or the output. The largest counts.
+cannot be met; 2 a sheet, a text or a number is refused; 3 trouble with a file,
+the arguments or the output. The largest counts.
 ";
 
 #[cfg(test)]

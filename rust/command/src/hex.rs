@@ -5,12 +5,18 @@
 use std::fmt;
 
 /// UTF-8's byte order mark.
-const MARK: [u8; 3] = [0xEF, 0xBB, 0xBF];
+pub const MARK: [u8; 3] = [0xEF, 0xBB, 0xBF];
 
 /// Whether a byte parts pairs: space, tab, line feed, vertical tab, form feed
 /// and carriage return.
 pub fn is_blank(byte: u8) -> bool {
     matches!(byte, b' ' | 9..=13)
+}
+
+/// Bytes in hex, parted by spaces.
+pub fn pairs(bytes: impl Iterator<Item = u8>) -> String {
+    let pairs = bytes.map(|byte| format!("{byte:02X}"));
+    pairs.collect::<Vec<_>>().join(" ")
 }
 
 /// Why a text is no hex text, and where. Displayed as a clause.

@@ -65,7 +65,7 @@ fn for_people(file: &OsStr, names: Option<Names>, out: &mut dyn Write) -> io::Re
         Err(sentence) => return Ok(trouble(&sentence)),
     };
     say_all(&source.notes);
-    let answer = judged(&source.bytes, &mut Words::default());
+    let answer = answer(&source, &mut Words::default());
     let mut status = status(&answer);
     let text = match &answer {
         Ok(found) => text::whole(found),
@@ -107,8 +107,12 @@ fn given_names(file: &OsStr) -> Result<Names, Trouble> {
 
 fn judged_file(file: &OsString, words: &mut Words) -> Result<Judged, Trouble> {
     let source = Source::read(file).map_err(|sentence| Trouble::with(file, sentence))?;
-    let answer = judged(&source.bytes, words);
+    let answer = answer(&source, words);
     Ok(Judged { source, answer })
+}
+
+fn answer(source: &Source, words: &mut Words) -> Answer {
+    judged(source.sheet()?, words)
 }
 
 /// Judges files, a line each, and prints the totals of several.

@@ -21,12 +21,12 @@ pub const QUEUE_REFUSED: &str = "refused 15\n";
 
 /// The answer to a sheet alone.
 pub fn alone(source: &Source, words: &mut Words) -> Answer {
-    judged_with(WORDS, &source.bytes, words)
+    judged_with(WORDS, source.sheet()?, words)
 }
 
 /// The answer to a sheet in a slot.
 pub fn in_slot(source: &Source, words: &mut Words) -> Answer {
-    if source.bytes.len() > LONGEST {
+    if source.sheet()?.len() > LONGEST {
         return Err(Refusal {
             call: Call::Judge,
             number: TOO_LONG,
@@ -86,6 +86,7 @@ mod tests {
         Source {
             name: "f".into(),
             bytes,
+            refusal: None,
             notes: vec![],
         }
     }

@@ -1,14 +1,18 @@
-//! The command `lodhrussi`: judges and shows sheets, and strikes pairings.
+//! The command `lodhrussi`: judges and shows sheets, strikes pairings, and takes
+//! sheets from and to OWL text.
 
 mod answer;
 mod arguments;
 mod count;
+mod export;
 mod help;
 mod hex;
+mod import;
 mod json;
 mod judge;
 mod lines;
 mod names;
+mod owl;
 mod parts;
 mod picture;
 mod pool;
@@ -51,6 +55,8 @@ fn answer(question: &Question) -> Status {
         Question::Judge(options) => judge::run(options, &mut out),
         Question::Show(options) => show::run(options, &mut out),
         Question::Strike(options) => strike::run(options, &mut out),
+        Question::Import(options) => import::run(options, &mut out),
+        Question::Export(options) => export::run(options, &mut out),
     };
     match answered.and_then(|status| out.flush().map(|()| status)) {
         Ok(status) => status,

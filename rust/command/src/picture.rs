@@ -4,17 +4,23 @@
 mod tests;
 
 use crate::names::Names;
-use crate::tree::trees;
+use crate::owl;
+use crate::tree::{trees, Tree};
 use lodhrussi::records::{records, Field, Record, Reference, Sort, KIND_BYTES};
-use lodhrussi::Refusal;
+use lodhrussi::{Call, Refusal};
 use std::iter::repeat;
 use std::ops::Range;
 
 /// The refusal of a sheet: its place, its sentence and the record's bytes with
-/// the fault underlined. Ends with a line feed.
+/// the fault underlined; or of an OWL text, with the line of the fault. Ends with
+/// a line feed.
 #[must_use]
 pub fn picture(file: &str, sheet: &[u8], refusal: &Refusal, names: &Names) -> String {
     let mut picture = format!("{file}: {}\n{}\n", told(refusal), refusal.explain(sheet));
+    if refusal.call == Call::Import {
+        picture.push_str(&of_text(sheet, refusal).unwrap_or_default());
+        return picture;
+    }
     for drawing in drawings(sheet, refusal, names).unwrap_or_default() {
         picture.push_str(&drawing.lines());
     }
@@ -24,11 +30,23 @@ pub fn picture(file: &str, sheet: &[u8], refusal: &Refusal, names: &Names) -> St
 /// Number and place of a refusal; the number alone if no byte is at fault.
 #[must_use]
 pub fn told(refusal: &Refusal) -> String {
-    let Refusal { number, place, .. } = refusal;
-    match number {
-        1..=8 | 16 | 17 => format!("refused {number} at byte {place}"),
+    let Refusal {
+        call,
+        number,
+        place,
+    } = refusal;
+    match (call, number) {
+        (Call::Import, 3) => format!("refused {number}"),
+        (_, 1..=8 | 16..=20) => format!("refused {number} at byte {place}"),
         _ => format!("refused {number}"),
     }
+}
+
+/// The line of a text at which it is refused.
+fn of_text(text: &[u8], refusal: &Refusal) -> Option<String> {
+    let at_a_byte = matches!(refusal.number, 18 | 19);
+    let place = usize::try_from(refusal.place).ok()?;
+    at_a_byte.then(|| owl::drawing(text, place))?
 }
 
 /// The record at fault; none if the fault is of the whole sheet, or another
@@ -82,6 +100,9 @@ fn hex(record: &Record<'_>, length: usize) -> String {
 
 /// What is drawn of a refusal; nothing if another sheet was refused.
 fn drawings<'a>(sheet: &'a [u8], refusal: &Refusal, names: &Names) -> Option<Vec<Drawing<'a>>> {
+    if refusal.number == 20 {
+        return Some(vec![with_boolean_role(sheet, refusal, names)?]);
+    }
     let record = faulty_record(sheet, refusal)?;
     let draw = |bytes, caption| {
         Some(vec![Drawing {
@@ -105,6 +126,35 @@ fn drawings<'a>(sheet: &'a [u8], refusal: &Refusal, names: &Names) -> Option<Vec
         8 => draw(0..length, on_empty_set(sheet, &record, names)?),
         _ => of_reference(sheet, refusal, record),
     }
+}
+
+/// An axiom that has no text.
+fn with_boolean_role<'a>(sheet: &'a [u8], refusal: &Refusal, names: &Names) -> Option<Drawing<'a>> {
+    let mut records = records(sheet);
+    let record = records.find(|record| record.start as u64 == refusal.place)?;
+    let tree = trees(sheet).into_iter().nth(record.number)?;
+    let role = boolean_role(&tree)?.text(names);
+    Some(Drawing {
+        record,
+        bytes: 0..1 + record.fields().len(),
+        caption: format!("found the link {role}; wanted a link as named or reversed"),
+    })
+}
+
+/// The first role with not, and, or in a concept or an axiom.
+fn boolean_role(tree: &Tree) -> Option<&Tree> {
+    match tree {
+        Tree::Exists(u, _) | Tree::Forall(u, _) if is_boolean(u) => Some(u),
+        Tree::Not(c) | Tree::Exists(_, c) | Tree::Forall(_, c) => boolean_role(c),
+        Tree::And(c, d) | Tree::Or(c, d) | Tree::Axiom(c, d) => {
+            boolean_role(c).or_else(|| boolean_role(d))
+        }
+        _ => None,
+    }
+}
+
+fn is_boolean(role: &Tree) -> bool {
+    !matches!(role, Tree::Role(_) | Tree::Inverse(_))
 }
 
 fn cut_off(record: &Record<'_>) -> String {

@@ -14,7 +14,9 @@ use std::io::{self, Write};
 pub struct Sheet {
     /// The file as it is told to people.
     pub file: String,
+    /// The sheet, or an OWL text that is refused.
     pub bytes: Vec<u8>,
+    pub refusal: Option<Refusal>,
     pub names: Names,
     pub json: bool,
 }
@@ -26,15 +28,42 @@ impl Sheet {
     ///
     /// A sentence about a file.
     pub fn read(file: &OsStr, names: Option<&OsStr>, json: bool) -> Result<Sheet, String> {
-        let source = Source::read(file)?;
+        Self::of(Source::read(file)?, file, names, json)
+    }
+
+    /// Reads the sheet of an OWL text, whatever it begins with, and its names.
+    ///
+    /// # Errors
+    ///
+    /// A sentence about a file.
+    pub fn read_text(file: &OsStr, names: Option<&OsStr>, json: bool) -> Result<Sheet, String> {
+        Self::of(Source::read_text(file)?, file, names, json)
+    }
+
+    fn of(
+        source: Source,
+        file: &OsStr,
+        names: Option<&OsStr>,
+        json: bool,
+    ) -> Result<Sheet, String> {
         let names = Names::for_sheet(names, file)?;
         say_all(&source.notes);
         Ok(Sheet {
             file: source.name,
             bytes: source.bytes,
+            refusal: source.refusal,
             names,
             json,
         })
+    }
+
+    /// The sheet's bytes.
+    ///
+    /// # Errors
+    ///
+    /// The refusal of an OWL text.
+    pub fn sheet(&self) -> Result<&[u8], Refusal> {
+        self.refusal.map_or(Ok(&self.bytes), Err)
     }
 
     /// An object about the sheet.
@@ -53,6 +82,20 @@ impl Sheet {
     #[must_use]
     pub fn picture(&self, refusal: &Refusal) -> String {
         picture(&self.file, &self.bytes, refusal, &self.names)
+    }
+
+    /// Tells a refusal.
+    ///
+    /// # Errors
+    ///
+    /// Standard output cannot be written.
+    pub fn tell_refused(&self, refusal: &Refusal, out: &mut dyn Write) -> io::Result<Status> {
+        if self.json {
+            writeln!(out, "{}", self.refused(refusal))?;
+        } else {
+            write!(out, "{}", self.picture(refusal))?;
+        }
+        Ok(Status::Refused)
     }
 }
 

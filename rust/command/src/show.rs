@@ -7,6 +7,7 @@ mod text;
 mod tests;
 
 use crate::arguments::Show;
+use crate::hex::pairs;
 use crate::parts::{parts, Part};
 use crate::picture::faulty_record;
 use crate::sheet::{trouble, Sheet};
@@ -36,6 +37,9 @@ pub fn run(options: &Show, out: &mut dyn Write) -> io::Result<Status> {
 }
 
 fn show(sheet: &Sheet, out: &mut dyn Write) -> io::Result<Status> {
+    if let Some(refusal) = &sheet.refusal {
+        return sheet.tell_refused(refusal, out);
+    }
     let bytes = &sheet.bytes;
     let read = lodhrussi::read(bytes).and_then(|counts| Ok((counts, parts(bytes, counts)?)));
     let listing = Listing::of(sheet, read.as_ref().err());
@@ -100,8 +104,7 @@ impl<'a> Listing<'a> {
 
 impl Row<'_> {
     fn hex(&self) -> String {
-        let bytes = self.record.bytes().map(|byte| format!("{byte:02X}"));
-        bytes.collect::<Vec<_>>().join(" ")
+        pairs(self.record.bytes())
     }
 
     /// What it stands for.

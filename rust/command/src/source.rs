@@ -1,6 +1,8 @@
-//! A sheet from a file: hex text, or else raw bytes.
+//! A sheet from a file: OWL text, hex text, or else raw bytes.
 
 use crate::hex::{is_blank, Fault, Reader};
+use crate::owl::{is_text, LIMIT};
+use lodhrussi::Refusal;
 use std::ffi::OsStr;
 use std::fs::File;
 use std::io::{self, ErrorKind, Read};
@@ -15,8 +17,11 @@ pub const MOST: usize = 766;
 pub struct Source {
     /// The file as it is told to people.
     pub name: String,
-    /// The sheet's first bytes, at most [`MOST`].
+    /// The sheet's first bytes, at most [`MOST`]; or a whole OWL text that is
+    /// refused.
     pub bytes: Vec<u8>,
+    /// Why an OWL text is no sheet.
+    pub refusal: Option<Refusal>,
     /// What to say of the file on standard error, a clause each.
     pub notes: Vec<String>,
 }
@@ -25,27 +30,129 @@ impl Source {
     /// Reads the sheet in a file, or in standard input for `-`. The error is a
     /// clause.
     pub fn read(file: &OsStr) -> Result<Source, String> {
+        Self::read_by(Self::take, file)
+    }
+
+    /// Reads the sheet of the OWL text in a file, or in standard input for `-`,
+    /// whatever it begins with. The error is a clause.
+    pub fn read_text(file: &OsStr) -> Result<Source, String> {
+        Self::read_by(Self::take_text, file)
+    }
+
+    fn read_by(take: Take, file: &OsStr) -> Result<Source, String> {
         let name = name(file);
         let read = match file.to_str() {
-            Some("-") => Self::take(&name, io::stdin().lock()),
-            _ => File::open(file).and_then(|file| Self::take(&name, file)),
+            Some("-") => take(&name, &mut io::stdin().lock()),
+            _ => File::open(file).and_then(|mut file| take(&name, &mut file)),
         };
         read.map_err(|error| unreadable(&name, &error))
     }
 
     /// Reads as much of the input as decides.
-    fn take(name: &str, mut input: impl Read) -> io::Result<Source> {
+    fn take(name: &str, input: &mut dyn Read) -> io::Result<Source> {
+        let mut input = Chunks::of(input);
+        let mut front = Vec::new();
+        if input.is_text(&mut front)? {
+            return Ok(Self::of_text(name, input.whole(front)?));
+        }
         let mut content = Content::new();
-        let mut chunk = [0; 1 << 14];
+        content.take_all(&front);
         while !content.decided() {
-            match input.read(&mut chunk) {
-                Ok(0) => break,
-                Ok(n) => content.take_all(&chunk[..n]),
+            match input.next()? {
+                [] => break,
+                bytes => content.take_all(bytes),
+            }
+        }
+        Ok(content.source(name))
+    }
+
+    /// Reads an OWL text to its end.
+    fn take_text(name: &str, input: &mut dyn Read) -> io::Result<Source> {
+        let text = Chunks::of(input).whole(Vec::new())?;
+        Ok(Self::of_text(name, text))
+    }
+
+    fn of_text(name: &str, text: Vec<u8>) -> Source {
+        let (bytes, refusal) = match lodhrussi::imported(&text) {
+            Ok(sheet) => (sheet, None),
+            Err(refusal) => (text, Some(refusal)),
+        };
+        Source {
+            name: name.into(),
+            bytes,
+            refusal,
+            notes: vec![],
+        }
+    }
+
+    /// The sheet's bytes.
+    ///
+    /// # Errors
+    ///
+    /// The refusal of an OWL text.
+    pub fn sheet(&self) -> Result<&[u8], Refusal> {
+        self.refusal.map_or(Ok(&self.bytes), Err)
+    }
+}
+
+/// How a source is made of a name and an input.
+type Take = fn(&str, &mut dyn Read) -> io::Result<Source>;
+
+/// An input, chunk by chunk.
+struct Chunks<'a> {
+    input: &'a mut dyn Read,
+    chunk: Box<[u8]>,
+    ended: bool,
+}
+
+impl<'a> Chunks<'a> {
+    fn of(input: &'a mut dyn Read) -> Self {
+        Chunks {
+            input,
+            chunk: vec![0; 1 << 14].into(),
+            ended: false,
+        }
+    }
+
+    /// The next bytes; none at the end.
+    fn next(&mut self) -> io::Result<&[u8]> {
+        while !self.ended {
+            match self.input.read(&mut self.chunk) {
+                Ok(0) => self.ended = true,
+                Ok(n) => return Ok(&self.chunk[..n]),
                 Err(error) if error.kind() == ErrorKind::Interrupted => {}
                 Err(error) => return Err(error),
             }
         }
-        Ok(content.source(name))
+        Ok(&[])
+    }
+
+    /// Reads until it is decided whether this is OWL text.
+    fn is_text(&mut self, front: &mut Vec<u8>) -> io::Result<bool> {
+        while front.len() <= LIMIT {
+            let more = self.next()?;
+            front.extend(more);
+            // at the end the first word ends too
+            let decided = match more {
+                [] => Some(is_text(&[front, &b" "[..]].concat()) == Some(true)),
+                _ => is_text(front),
+            };
+            if let Some(is_text) = decided {
+                return Ok(is_text);
+            }
+        }
+        Ok(false)
+    }
+
+    /// The front of an OWL text and the rest.
+    fn whole(&mut self, mut front: Vec<u8>) -> io::Result<Vec<u8>> {
+        while front.len() <= LIMIT {
+            match self.next()? {
+                [] => return Ok(front),
+                more => front.extend(more),
+            }
+        }
+        Err(io::Error::other("longer than 4 MB"))
     }
 }
 
@@ -132,6 +239,7 @@ impl Content {
         Source {
             name: name.into(),
             bytes,
+            refusal: None,
             notes: notes.into_iter().collect(),
         }
     }
@@ -148,10 +256,10 @@ fn keep(bytes: &mut Vec<u8>, byte: u8) {
 mod tests {
     use super::*;
     use comparison::random::Random;
-    use comparison::{damage, made_up, worked};
+    use comparison::{damage, made_up, owl, worked};
 
-    fn source(content: &[u8]) -> Source {
-        Source::take("f", content).expect("bytes in memory are read")
+    fn source(mut content: &[u8]) -> Source {
+        Source::take("f", &mut content).expect("bytes in memory are read")
     }
 
     /// Asserts that a content is the sheet itself, with these notes.
@@ -242,9 +350,59 @@ mod tests {
     fn no_more_is_read_than_decides() {
         for content in [vec![0; MOST], [vec![b'0'; MOST], vec![b'0', b'G']].concat()] {
             let expected = source(&content);
-            let spared = Source::take("f", Sparing(content));
+            let spared = Source::take("f", &mut Sparing(content));
             assert_eq!(spared.expect("bytes in memory are read"), expected);
         }
+    }
+
+    /// An input that gives its bytes one at a time.
+    struct Slow<'a>(&'a [u8]);
+
+    impl Read for Slow<'_> {
+        fn read(&mut self, buffer: &mut [u8]) -> io::Result<usize> {
+            self.0.read(&mut buffer[..1])
+        }
+    }
+
+    #[test]
+    fn owl_texts_are_imported() {
+        let mut random = Random::seeded(93);
+        let mut refused = 0;
+        for turn in 0..300 {
+            let text = match turn % 2 {
+                0 => owl::text(&mut random),
+                _ => owl::damaged(&mut random),
+            };
+            let text = [b"SubClassOf(:t0 :t1)\n", &text[..]].concat();
+            let found = source(&text);
+            assert_eq!(
+                found.sheet(),
+                found.refusal.map_or(Ok(&found.bytes[..]), Err)
+            );
+            match lodhrussi::imported(&text) {
+                Ok(sheet) => assert_eq!((found.bytes, found.refusal), (sheet, None)),
+                Err(refusal) => {
+                    assert_eq!((&found.bytes, found.refusal), (&text, Some(refusal)));
+                    refused += 1;
+                }
+            }
+            let slow = Source::take("f", &mut Slow(&text));
+            assert_eq!(slow.expect("bytes in memory are read"), source(&text));
+        }
+        assert!((60..=240).contains(&refused), "{refused} texts");
+    }
+
+    /// The end of a file ends its first word.
+    #[test]
+    fn beginnings_of_owl_texts() {
+        let text = b"\n SubClassOf(";
+        for end in 0..=text.len() {
+            let found = source(&text[..end]);
+            let is_text = found.refusal.is_some();
+            assert_eq!(is_text, end >= text.len() - 1, "{end} bytes");
+        }
+        assert_eq!(source(b"SubClassOf").bytes, b"SubClassOf");
+        assert_eq!(source(b"Prefix\n").refusal.map(|r| r.number), Some(18));
     }
 
     #[test]

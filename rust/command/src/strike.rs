@@ -29,11 +29,9 @@ pub fn run(options: &Strike, out: &mut dyn Write) -> io::Result<Status> {
 
 fn strike(sheet: &Sheet, numbers: &[u64], out: &mut dyn Write) -> io::Result<Status> {
     match Opened::of(sheet) {
-        Ok(mut opened) => return opened.strike_all(numbers, out),
-        Err(refusal) if sheet.json => writeln!(out, "{}", sheet.refused(&refusal))?,
-        Err(refusal) => write!(out, "{}", sheet.picture(&refusal))?,
+        Ok(mut opened) => opened.strike_all(numbers, out),
+        Err(refusal) => sheet.tell_refused(&refusal, out),
     }
-    Ok(Status::Refused)
 }
 
 /// A sheet and its set, as the strikes so far left it.
@@ -46,13 +44,14 @@ struct Opened<'a> {
 
 impl<'a> Opened<'a> {
     fn of(sheet: &'a Sheet) -> Result<Self, Refusal> {
-        let counts = lodhrussi::read(&sheet.bytes)?;
+        let bytes = sheet.sheet()?;
+        let counts = lodhrussi::read(bytes)?;
         let mut set = vec![0; words_needed(counts)];
-        lodhrussi::open(&sheet.bytes, &mut set)?;
+        lodhrussi::open(bytes, &mut set)?;
         Ok(Opened {
             sheet,
             counts,
-            parts: parts(&sheet.bytes, counts)?,
+            parts: parts(bytes, counts)?,
             set,
         })
     }

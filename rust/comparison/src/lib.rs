@@ -8,6 +8,7 @@ pub mod dominoes;
 pub mod few_axioms;
 pub mod made_up;
 pub mod misreference;
+pub mod owl;
 pub mod program;
 pub mod queues;
 pub mod random;
@@ -25,7 +26,7 @@ mod lent;
 use reference::{Counts, Judgement, Refusal, Strike};
 
 /// One more than the largest number of a refusal.
-pub const REFUSALS: usize = 18;
+pub const REFUSALS: usize = 22;
 
 /// The calls about a sheet alone, with the refusals of the reference.
 #[allow(clippy::missing_errors_doc)]
@@ -41,6 +42,14 @@ pub trait Judging {
     fn strike(&self, sheet: &[u8], set: &mut [u64], number: u64) -> Result<Strike, Refusal>;
     fn settle(&self, sheet: &[u8], set: &mut [u64]) -> Result<u64, Refusal>;
     fn judge(&self, sheet: &[u8], set: &mut [u64]) -> Result<Judgement, Refusal>;
+}
+
+/// The calls from and to OWL 2 functional-style syntax, with the refusals of the
+/// reference.
+#[allow(clippy::missing_errors_doc)]
+pub trait Translating {
+    fn import(&self, text: &[u8], out: &mut [u8]) -> Result<usize, Refusal>;
+    fn export(&self, sheet: &[u8], out: &mut [u8]) -> Result<usize, Refusal>;
 }
 
 /// The reference itself.
@@ -71,5 +80,15 @@ impl Judging for Reference {
 
     fn judge(&self, sheet: &[u8], set: &mut [u64]) -> Result<Judgement, Refusal> {
         reference::judge(sheet, set)
+    }
+}
+
+impl Translating for Reference {
+    fn import(&self, text: &[u8], out: &mut [u8]) -> Result<usize, Refusal> {
+        reference::owl::import(text, out)
+    }
+
+    fn export(&self, sheet: &[u8], out: &mut [u8]) -> Result<usize, Refusal> {
+        reference::owl::export(sheet, out)
     }
 }

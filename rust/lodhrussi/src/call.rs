@@ -1,6 +1,6 @@
 use std::fmt;
 
-/// A call of the library. Displayed by document 01's name of it.
+/// A call of the library. Displayed by documents 01's and 02's name of it.
 #[derive(Clone, Copy, Debug, PartialEq, Eq, Hash)]
 #[non_exhaustive]
 pub enum Call {
@@ -16,17 +16,23 @@ pub enum Call {
     Settle,
     /// [`judge`](crate::judge)
     Judge,
+    /// [`import`](crate::import) and [`imported`](crate::imported)
+    Import,
+    /// [`export`](crate::export) and [`exported`](crate::exported)
+    Export,
 }
 
 impl Call {
-    /// All of them, in document 01's order.
-    pub const ALL: [Call; 6] = [
+    /// All of them, in the documents' order.
+    pub const ALL: [Call; 8] = [
         Call::Read,
         Call::ListMarks,
         Call::Open,
         Call::Strike,
         Call::Settle,
         Call::Judge,
+        Call::Import,
+        Call::Export,
     ];
 }
 
@@ -39,6 +45,8 @@ impl fmt::Display for Call {
             Call::Strike => "strike",
             Call::Settle => "settle",
             Call::Judge => "judge",
+            Call::Import => "import",
+            Call::Export => "export",
         })
     }
 }

@@ -60,4 +60,22 @@ extern "C" {
         survivors: *mut u64,
         met: *mut u64,
     ) -> u64;
+
+    pub fn lodhrussi_import(
+        text: *const u8,
+        n: usize,
+        out: *mut u8,
+        len: usize,
+        place: *mut u64,
+        written: *mut u64,
+    ) -> u64;
+
+    pub fn lodhrussi_export(
+        sheet: *const u8,
+        n: usize,
+        out: *mut u8,
+        len: usize,
+        place: *mut u64,
+        written: *mut u64,
+    ) -> u64;
 }

@@ -1,5 +1,6 @@
 //! Reads, flattens and judges knowledge bases of the description logic ALCIb,
-//! by calls into the static library `capi`.
+//! and takes them from and to OWL 2 functional-style syntax, by calls into the
+//! static library `capi`.
 //!
 //! The bytes of a knowledge base are called a sheet: records of concepts, roles
 //! and axioms, each record naming earlier ones.
@@ -29,6 +30,9 @@
 //! // A restriction is cut off at byte 5.
 //! let refusal = lodhrussi::read(&sheet[..7]).unwrap_err();
 //! assert_eq!((refusal.number, refusal.place), (2, 5));
+//!
+//! let text = "SubClassOf(owl:Thing ObjectSomeValuesFrom(:k0 :t0))\n";
+//! assert_eq!(lodhrussi::exported(&sheet)?, text);
 //! # Ok::<(), lodhrussi::Refusal>(())
 //! ```
 
@@ -36,6 +40,7 @@ mod call;
 mod condition;
 mod dominoes;
 mod ffi;
+mod owl;
 mod refusal;
 
 pub mod records;
@@ -43,6 +48,7 @@ pub mod records;
 pub use call::Call;
 pub use condition::Condition;
 pub use dominoes::{judge, open, settle, strike, words_needed, Judgement, Strike, Verdict};
+pub use owl::{export, exported, import, imported};
 pub use refusal::Refusal;
 
 /// What a sheet holds.

@@ -1,10 +1,11 @@
-//! What a refusal says of a sheet, on damaged sheets and random bytes.
+//! What a refusal says of a sheet, on damaged sheets and random bytes, and of a
+//! text, on damaged texts.
 
 use comparison::misreference::{self, Case};
 use comparison::random::Random;
 use comparison::records::{body_length, reference_at, wants};
 use comparison::suites::{report, times};
-use comparison::{damage, REFUSALS};
+use comparison::{damage, owl, REFUSALS};
 use lodhrussi::{Call, Refusal};
 
 /// Where each record starts, by walking the bytes.
@@ -81,10 +82,19 @@ fn assert_explained(refusal: Refusal, sheet: &[u8]) {
     }
 }
 
+/// The refusal that a call has of these bytes, a sheet or a text.
+fn own(call: Call, bytes: &[u8]) -> Option<(u64, u64)> {
+    let refusal = match call {
+        Call::Import => lodhrussi::imported(bytes).err(),
+        Call::Export => lodhrussi::exported(bytes).err(),
+        _ => lodhrussi::read(bytes).err(),
+    };
+    refusal.map(|refusal| (refusal.number, refusal.place))
+}
+
 /// Asserts that any refusal says something of any sheet, and nothing of its
 /// bytes where another fault comes first or none.
 fn assert_any_explained(sheet: &[u8], random: &mut Random) {
-    let own = lodhrussi::read(sheet).err();
     for number in (0..REFUSALS as u64 + 2).chain([random.word()]) {
         let (near, far) = (random.below(sheet.len() + 2) as u64, random.word());
         let refusal = Refusal {
@@ -94,8 +104,8 @@ fn assert_any_explained(sheet: &[u8], random: &mut Random) {
         };
         let (text, sentence) = (refusal.explain(sheet), refusal.to_string());
         assert!(text.starts_with(&sentence), "{sheet:02X?}: {text}");
-        let is_own = own.is_some_and(|own| (own.number, own.place) == (number, refusal.place));
-        if !is_own && !(10..=12).contains(&number) {
+        let is_own = own(refusal.call, sheet) == Some((number, refusal.place));
+        if !is_own && !matches!(number, 10..=12 | 21) {
             assert_eq!(text, sentence, "{sheet:02X?}");
         }
     }
@@ -130,6 +140,83 @@ fn every_sheet_and_refusal() {
         .collect();
     report("explaining", &counts.join(" "));
     for number in numbers {
+        assert!(explained[number] >= 100, "refusal {number} is rare");
+    }
+}
+
+/// What is told as wanted, with a word of that sort.
+const WANTED: [(&str, &str); 6] = [
+    ("SubClassOf", "SubClassOf"),
+    ("'('", "("),
+    ("')'", ")"),
+    ("a class ", ":t3"),
+    ("a link ", "ObjectInverseOf"),
+    ("the name of a link ", ":k2"),
+];
+
+/// Whether a word may come after the beginning of a text.
+fn may_come(before: &[u8], word: &str) -> bool {
+    let text = [before, b"\n", word.as_bytes()].concat();
+    let place = before.len() as u64 + 1;
+    let refusal = reference::owl::axioms(&text).err();
+    refusal.is_none_or(|refusal| (refusal.number, refusal.place) != (19, place))
+}
+
+/// Asserts that a text's own refusal tells line and column of its place, what
+/// stands there, and what may.
+#[track_caller]
+fn assert_text_explained(refusal: Refusal, text: &[u8]) {
+    let said = refusal.explain(text);
+    let what = format!("{}: {said}", text.escape_ascii());
+    let shown = said.strip_prefix(&format!("{refusal} ")).expect(&what);
+    if refusal.number == 3 {
+        assert!(
+            shown.starts_with("The 256th record begins at line "),
+            "{what}"
+        );
+        return;
+    }
+    let place = refusal.place as usize;
+    let lines: Vec<_> = text[..place].split(|&byte| byte == b'\n').collect();
+    let column = lines.last().map_or(0, |line| line.len()) + 1;
+    let at = format!("Line {}, column {column}: found ", lines.len());
+    let (found, wanted) = shown.split_once("; wanted ").expect(&what);
+    assert!(found.starts_with(&at), "{what}");
+    let at_end = found.ends_with("found the end of the text");
+    assert_eq!(at_end, place == text.len(), "{what}");
+    let told = WANTED.iter().find(|(told, _)| wanted.starts_with(told));
+    let (_, word) = told.expect(&what);
+    assert!(may_come(&text[..place], word), "{what}");
+    if *word != ":k2" {
+        let others = WANTED.iter().filter(|(_, other)| other != word);
+        let may = others.filter(|(_, other)| may_come(&text[..place], other));
+        let may: Vec<_> = may.map(|(_, other)| *other).collect();
+        assert!(
+            may.is_empty() || may == [":k2"] && *word == "ObjectInverseOf",
+            "{what}"
+        );
+    }
+}
+
+#[test]
+fn every_text_and_refusal() {
+    let mut random = Random::seeded(18);
+    let mut explained = [0; REFUSALS];
+    for turn in 0..times(6_000) {
+        let text = match turn % 3 {
+            0 => owl::text(&mut random),
+            1 => owl::damaged(&mut random),
+            _ => owl::soup(&mut random),
+        };
+        if let Err(refusal) = lodhrussi::imported(&text) {
+            assert_text_explained(refusal, &text);
+            explained[refusal.number as usize] += 1;
+        }
+        assert_any_explained(&text, &mut random);
+    }
+    let counts = [3, 18, 19].map(|number: usize| format!("{number}: {}", explained[number]));
+    report("explaining, texts", &counts.join(" "));
+    for number in [3, 18, 19] {
         assert!(explained[number] >= 100, "refusal {number} is rare");
     }
 }

@@ -159,6 +159,7 @@ mod tests {
         let source = Source {
             name: "f".into(),
             bytes: sheet.into(),
+            refusal: None,
             notes: vec![],
         };
         line(&source, &judged(sheet, &mut Words::default()))

@@ -10,6 +10,7 @@ fn shown(bytes: &[u8], names: &str, json: bool) -> (String, Status) {
     let sheet = Sheet {
         file: "sheet.hex".into(),
         bytes: bytes.into(),
+        refusal: None,
         names: Names::parse(names).expect("names"),
         json,
     };
@@ -295,6 +296,7 @@ fn a_standard_output_that_cannot_be_written() {
     let sheet = Sheet {
         file: "sheet.hex".into(),
         bytes: from_hex(S3),
+        refusal: None,
         names: Names::default(),
         json: false,
     };

@@ -7,6 +7,7 @@ fn sheet(bytes: &[u8], names: &str, json: bool) -> Sheet {
     Sheet {
         file: "sheet.hex".into(),
         bytes: bytes.into(),
+        refusal: None,
         names: Names::parse(names).expect("names"),
         json,
     }

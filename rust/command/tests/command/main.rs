@@ -13,6 +13,7 @@ mod judged;
 mod launcher;
 mod names;
 mod output;
+mod owl;
 mod programs;
 mod progress;
 mod refusals;

@@ -5,11 +5,13 @@ use crate::run::{lodhrussi, run, run_on, Ran};
 use comparison::worked::{S1, S6};
 use std::path::Path;
 
-const HELP: [(&str, &str); 4] = [
+const HELP: [(&str, &str); 6] = [
     ("", include_str!("help/whole.txt")),
     ("judge", include_str!("help/judge.txt")),
     ("show", include_str!("help/show.txt")),
     ("strike", include_str!("help/strike.txt")),
+    ("import", include_str!("help/import.txt")),
+    ("export", include_str!("help/export.txt")),
 ];
 
 #[test]
@@ -55,6 +57,8 @@ fn the_examples_of_the_help() {
             0,
             "32: struck by condition 6, sym: Its mirror image is missing.",
         ),
+        (0, "03 00      # 0  'reheat coil'"),
+        (0, "Prefix(:=<http://example.org/coil#>)"),
     ];
     let expected = expected.map(|(status, line)| (Some(status), line.to_string()));
     assert_eq!(answers, expected);
@@ -70,7 +74,10 @@ fn the_version() {
 
 /// Arguments that ask nothing, and what is said of them.
 const WRONG: &[(&[&str], &str)] = &[
-    (&[], "name a subcommand: judge, show or strike"),
+    (
+        &[],
+        "name a subcommand: judge, show, strike, import or export",
+    ),
     (&[""], "there is no subcommand ''"),
     (&["-"], "there is no subcommand '-'"),
     (&["weigh", "s1.hex"], "there is no subcommand 'weigh'"),
@@ -195,6 +202,38 @@ const WRONG: &[(&[&str], &str)] = &[
     (
         &["strike", "--lines", "s1.hex", "0"],
         "strike: there is no option --lines",
+    ),
+    (&["import"], "import: name a FILE, or - for standard input"),
+    (
+        &["import", "s1.hex", "s1.hex"],
+        "import: name one FILE and no more",
+    ),
+    (
+        &["import", "--ontology", "a:b", "s1.hex"],
+        "import: there is no option --ontology",
+    ),
+    (&["export"], "export: name a FILE, or - for standard input"),
+    (
+        &["export", "s1.hex", "-"],
+        "export: name one FILE and no more",
+    ),
+    (
+        &["export", "--names", "-", "-"],
+        "export: standard input (-) can be read only once",
+    ),
+    (
+        &["export", "s1.hex", "--ontology"],
+        "export: --ontology wants an IRI such as http://example.org/coil after it",
+    ),
+    (
+        &["export", "--ontology", "s1.hex"],
+        "export: 's1.hex' is no IRI; \
+         --ontology wants an IRI such as http://example.org/coil after it",
+    ),
+    (
+        &["export", "--ontology=a:b c", "s1.hex"],
+        "export: 'a:b c' is no IRI; \
+         --ontology wants an IRI such as http://example.org/coil after it",
     ),
 ];
 

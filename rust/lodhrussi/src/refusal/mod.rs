@@ -1,5 +1,6 @@
 mod sentence;
 mod shown;
+mod text;
 
 #[cfg(test)]
 mod tests;
@@ -26,11 +27,14 @@ pub struct Refusal {
     pub call: Call,
     /// 1 to 8, 16 and 17 for a fault of one record, 9 for too many parts, 10
     /// for a set that is too short, 11 for a domino number that is too large,
-    /// 12 for a list that is too short. No call answers 13, which is withdrawn,
-    /// nor 14 and 15, which are the queue program's.
+    /// 12 for a list that is too short, 18 and 19 for a fault of a text, 3 also
+    /// for its 256th record, 20 for an axiom that has no text, 21 for an output
+    /// that is too short. No call answers 13, which is withdrawn, nor 14 and 15,
+    /// which are the queue program's.
     pub number: u64,
-    /// For 5, 6, 7, 16 and 17 the byte of the faulty reference, for 1 to 4 and
-    /// 8 the byte where the faulty record starts, else 0.
+    /// For 5, 6, 7, 16 and 17 the byte of the faulty reference, for 1 to 4, 8
+    /// and 20 the byte where the faulty record starts, for 18 and 19 the byte of
+    /// the text, else 0. Refused by [`Call::Import`], 3 has 0 too.
     pub place: u64,
 }
 
@@ -49,8 +53,10 @@ impl Refusal {
 
     /// The sentence, then a second one with what the refused sheet shows: the
     /// byte at the place, the record and the reference that it belongs to, what
-    /// was found there and what was wanted; or what a set or a list needs. The
-    /// sentence alone for another sheet, whose first fault is not this one.
+    /// was found there and what was wanted; or what a set, a list or an output
+    /// needs. For [`Call::Import`] what is refused is a text, which shows line,
+    /// column and word. The sentence alone for another sheet or text, whose
+    /// first fault is not this one.
     ///
     /// ```
     /// let sheet = [0x10, 0, 7, 0, 0];
@@ -62,10 +68,23 @@ impl Refusal {
     ///      it names record 0 (10, link as named, at byte 0), and a class is wanted."
     /// );
     /// assert_eq!(refusal.explain(&[]), refusal.to_string());
+    ///
+    /// let text = b"SubClassOf(:t0 :k0)";
+    /// let refusal = lodhrussi::imported(text).unwrap_err();
+    /// assert_eq!(
+    ///     refusal.explain(text),
+    ///     "The text at byte 15 goes on with what cannot stand there, or ends inside a form. \
+    ///      Line 1, column 16: found ':k0'; wanted a class (:t0 to :t11, owl:Thing, owl:Nothing \
+    ///      or a form of classes)."
+    /// );
     /// ```
     #[must_use]
-    pub fn explain(&self, sheet: &[u8]) -> String {
-        match shown::shown(self, sheet) {
+    pub fn explain(&self, refused: &[u8]) -> String {
+        let shown = match self.call {
+            Call::Import => text::shown(self, refused),
+            _ => shown::shown(self, refused),
+        };
+        match shown {
             Some(shown) => format!("{self} {shown}"),
             None => self.to_string(),
         }

@@ -13,6 +13,14 @@ pub(super) enum Subject {
     Set,
     DominoNumber,
     List,
+    /// The axiom that starts at the place.
+    Axiom,
+    Output,
+    /// The word at the place in a text.
+    Word,
+    /// The place in a text.
+    InText,
+    Text,
 }
 
 impl Subject {
@@ -25,16 +33,46 @@ impl Subject {
             Subject::Set => "The set".into(),
             Subject::DominoNumber => "The pairing number".into(),
             Subject::List => "The list".into(),
+            Subject::Axiom => format!("The rule at byte {place}"),
+            Subject::Output => "The output".into(),
+            Subject::Word => format!("The word at byte {place}"),
+            Subject::InText => format!("The text at byte {place}"),
+            Subject::Text => "The text".into(),
         }
     }
 }
 
 /// The subject of a refusal's sentence and what is said of it; none for a
-/// number that the call does not answer. What a call alone says stands first;
-/// then what every call says that reads a sheet, in the order of reading.
+/// number that the call does not answer.
 pub(super) fn said(call: Call, number: u64) -> Option<(Subject, &'static str)> {
-    use Call::{Judge, ListMarks, Open, Settle, Strike};
-    use Subject::{DominoNumber, List, Record, Reference, Set, Sheet};
+    match call {
+        Call::Import => of_text(number),
+        _ => own(call, number).or_else(|| of_sheet(number)),
+    }
+}
+
+const OUTPUT_TOO_SHORT: (Subject, &str) =
+    (Subject::Output, "is too short for what is to be written");
+
+/// What is said of a text, in the order of reading.
+fn of_text(number: u64) -> Option<(Subject, &'static str)> {
+    use Subject::{InText, Text, Word};
+    Some(match number {
+        18 => (Word, "is not known"),
+        19 => (
+            InText,
+            "goes on with what cannot stand there, or ends inside a form",
+        ),
+        3 => (Text, "takes too many records: a sheet has at most 255"),
+        21 => OUTPUT_TOO_SHORT,
+        _ => return None,
+    })
+}
+
+/// What a call alone says of a sheet.
+fn own(call: Call, number: u64) -> Option<(Subject, &'static str)> {
+    use Call::{Export, Judge, ListMarks, Open, Settle, Strike};
+    use Subject::{Axiom, DominoNumber, List, Set};
     Some(match (call, number) {
         (Open | Strike | Settle | Judge, 10) => {
             (Set, "is too short: the sheet's pairings take more words")
@@ -47,27 +85,39 @@ pub(super) fn said(call: Call, number: u64) -> Option<(Subject, &'static str)> {
             List,
             "is too short: each of the sheet's marks takes three bytes",
         ),
+        (Export, 20) => (
+            Axiom,
+            "has a link with not, and, or; OWL 2 has no such links",
+        ),
+        (Export, 21) => OUTPUT_TOO_SHORT,
+        _ => return None,
+    })
+}
 
-        (_, 3) => (Record, "is one too many: a sheet has at most 255"),
-        (_, 1) => (Record, "is of no known kind"),
-        (_, 2) => (Record, "is cut off by the end of the sheet"),
-        (_, 4) => (
+/// What every call says that reads a sheet, in the order of reading.
+fn of_sheet(number: u64) -> Option<(Subject, &'static str)> {
+    use Subject::{Record, Reference, Sheet};
+    Some(match number {
+        3 => (Record, "is one too many: a sheet has at most 255"),
+        1 => (Record, "is of no known kind"),
+        2 => (Record, "is cut off by the end of the sheet"),
+        4 => (
             Record,
             "has a number that is too large: traits go up to 11, links up to 3",
         ),
-        (_, 5) => (Reference, "names no earlier record"),
-        (_, 6) => (Reference, "names a link where a class is wanted"),
-        (_, 16) => (Reference, "names a class where a link is wanted"),
-        (_, 17) => (Reference, "names a rule; rules are never named"),
-        (_, 7) => (
+        5 => (Reference, "names no earlier record"),
+        6 => (Reference, "names a link where a class is wanted"),
+        16 => (Reference, "names a class where a link is wanted"),
+        17 => (Reference, "names a rule; rules are never named"),
+        7 => (
             Reference,
             "names a record that was named before and may be named only once",
         ),
-        (_, 8) => (
+        8 => (
             Record,
             "is a some or only whose link holds on the empty set of links; it must fail there",
         ),
-        (_, 9) => (Sheet, "has more than 12 marks and links together"),
+        9 => (Sheet, "has more than 12 marks and links together"),
         _ => return None,
     })
 }

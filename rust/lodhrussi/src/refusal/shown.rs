@@ -4,6 +4,7 @@ use super::sentence::{said, Subject};
 use super::Refusal;
 use crate::records::{records, Field, Record, Reference, KIND_BYTES};
 use crate::{words_needed, Counts};
+use std::collections::BTreeSet;
 
 /// A sentence with what the sheet shows; none if it is not the one refused.
 pub(super) fn shown(refusal: &Refusal, sheet: &[u8]) -> Option<String> {
@@ -23,6 +24,12 @@ pub(super) fn shown(refusal: &Refusal, sheet: &[u8]) -> Option<String> {
             let bytes = count(3 * counts.marks, "byte");
             Some(needed(counts, &format!("the list takes {bytes}")))
         }
+        (Subject::Output, Ok(_)) => {
+            let text = crate::exported(sheet).ok()?;
+            let bytes = count(text.len() as u64, "byte");
+            Some(format!("The sheet's text takes {bytes}."))
+        }
+        (Subject::Axiom, Ok(_)) => of_axiom(sheet, place),
         (_, Err(fault)) if (fault.number, fault.place) == (number, place) => {
             let place = usize::try_from(place).ok()?;
             match subject {
@@ -36,7 +43,7 @@ pub(super) fn shown(refusal: &Refusal, sheet: &[u8]) -> Option<String> {
 }
 
 /// So many things.
-fn count(number: u64, thing: &str) -> String {
+pub(super) fn count(number: u64, thing: &str) -> String {
     let plural = if number == 1 { "" } else { "s" };
     format!("{number} {thing}{plural}")
 }
@@ -108,6 +115,43 @@ fn role_of_restriction(record: Record<'_>, sheet: &[u8]) -> Option<String> {
     let role = record.references().next()?;
     let (place, named) = (role.place, named(sheet, role)?);
     Some(format!(": its link, named at byte {place}, is {named}"))
+}
+
+/// The first axiom with a Boolean role, at the place, and where that is named.
+fn of_axiom(sheet: &[u8], place: u64) -> Option<String> {
+    let refusal = crate::export(sheet, &mut []).err()?;
+    if (refusal.number, refusal.place) != (20, place) {
+        return None;
+    }
+    let all: Vec<_> = records(sheet).collect();
+    let axiom = all.iter().find(|record| record.start as u64 == place)?;
+    let is_boolean = |record: &Record<'_>| matches!(record.byte, 0x12..=0x14);
+    let naming = |record: &Record<'_>| {
+        let role = record.references().next()?;
+        let restricts = matches!(record.byte, 0x07 | 0x08);
+        (restricts && is_boolean(&all[usize::from(role.names)])).then_some(role)
+    };
+    let mut reached = reached(&all[..=axiom.number]);
+    let role = reached.find_map(naming)?;
+    let (at, named, number) = (role.place, named(sheet, role)?, axiom.number);
+    Some(format!(
+        "Byte {place} is 20 (rule) and begins record {number}: \
+         it reaches the link named at byte {at}, which is {named}."
+    ))
+}
+
+/// The records that the last of some reaches, first to last.
+fn reached<'a>(all: &'a [Record<'a>]) -> impl Iterator<Item = &'a Record<'a>> {
+    let mut reached: BTreeSet<_> = all.last().map(|record| record.number).into_iter().collect();
+    // a record names earlier ones
+    for record in all.iter().rev() {
+        if reached.contains(&record.number) {
+            let references = record.references();
+            reached.extend(references.map(|reference| usize::from(reference.names)));
+        }
+    }
+    let is_reached = move |record: &&Record<'_>| reached.contains(&record.number);
+    all.iter().filter(is_reached)
 }
 
 /// A fault of the reference at the place.

@@ -8,7 +8,7 @@ fn hex(text: &str) -> Vec<u8> {
     bytes.collect::<Result<_, _>>().expect("bytes in hex")
 }
 
-/// A number that every call has, and its sentence at byte 5.
+/// A number that every call of a sheet has, and its sentence at byte 5.
 const OF_SHEET: [(u64, &str); 11] = [
     (1, "The record at byte 5 is of no known kind."),
     (
@@ -53,33 +53,65 @@ const NUMBER_TOO_LARGE: &str =
     "The pairing number is too large: the sheet has no pairing of that number.";
 const LIST_TOO_SHORT: &str = "The list is too short: each of the sheet's marks takes three bytes.";
 
-/// What a call has beyond those.
-const OWN: [(Call, &[(u64, &str)]); 6] = [
+const OUTPUT_TOO_SHORT: &str = "The output is too short for what is to be written.";
+
+/// What the call of a text has.
+const OF_TEXT: [(u64, &str); 4] = [
+    (
+        3,
+        "The text takes too many records: a sheet has at most 255.",
+    ),
+    (18, "The word at byte 5 is not known."),
+    (
+        19,
+        "The text at byte 5 goes on with what cannot stand there, or ends inside a form.",
+    ),
+    (21, OUTPUT_TOO_SHORT),
+];
+
+const BOOLEAN_ROLE: &str =
+    "The rule at byte 5 has a link with not, and, or; OWL 2 has no such links.";
+
+/// What a call of a sheet has beyond those.
+const OWN: [(Call, &[(u64, &str)]); 7] = [
     (Call::Read, &[]),
     (Call::ListMarks, &[(12, LIST_TOO_SHORT)]),
     (Call::Open, &[(10, SET_TOO_SHORT)]),
     (Call::Strike, &[(10, SET_TOO_SHORT), (11, NUMBER_TOO_LARGE)]),
     (Call::Settle, &[(10, SET_TOO_SHORT)]),
     (Call::Judge, &[(10, SET_TOO_SHORT)]),
+    (Call::Export, &[(20, BOOLEAN_ROLE), (21, OUTPUT_TOO_SHORT)]),
 ];
+
+/// Asserts the sentence of each number of a call.
+#[track_caller]
+fn assert_sentences(call: Call, rows: &[(u64, &str)]) {
+    for number in 0..40 {
+        let refusal = Refusal {
+            call,
+            number,
+            place: 5,
+        };
+        let row = rows.iter().find(|(of, _)| *of == number);
+        let none = format!("The call {call} refused with number {number} at 5.");
+        let sentence = row.map_or(none, |(_, sentence)| sentence.to_string());
+        assert_eq!(refusal.to_string(), sentence);
+    }
+}
 
 #[test]
 fn each_refusal_of_each_call_has_its_sentence() {
-    assert_eq!(OWN.map(|(call, _)| call), Call::ALL);
+    assert!(OWN.map(|(call, _)| call).into_iter().eq(of_sheets()));
     for (call, own) in OWN {
-        let sentences = OF_SHEET.iter().chain(own);
-        for number in 0..40 {
-            let refusal = Refusal {
-                call,
-                number,
-                place: 5,
-            };
-            let row = sentences.clone().find(|(of, _)| *of == number);
-            let none = format!("The call {call} refused with number {number} at 5.");
-            let sentence = row.map_or(none, |(_, sentence)| sentence.to_string());
-            assert_eq!(refusal.to_string(), sentence);
-        }
+        assert_sentences(call, &[&OF_SHEET, own].concat());
     }
+    assert_sentences(Call::Import, &OF_TEXT);
+}
+
+/// The calls that are given a sheet.
+fn of_sheets() -> impl Iterator<Item = Call> {
+    let calls = Call::ALL.into_iter();
+    calls.filter(|call| *call != Call::Import)
 }
 
 #[test]
@@ -220,7 +252,7 @@ const SHOWN: &[(&str, u64, u64, &str)] = &[
 
 /// Asserts what a refusal says of a sheet.
 #[track_caller]
-fn assert_shown(refusal: Refusal, sheet: &[u8], shown: &str) {
+pub(super) fn assert_shown(refusal: Refusal, sheet: &[u8], shown: &str) {
     assert_eq!(refusal.explain(sheet), format!("{refusal} {shown}"));
 }
 
@@ -228,7 +260,7 @@ fn assert_shown(refusal: Refusal, sheet: &[u8], shown: &str) {
 fn what_a_sheet_shows() {
     for &(text, number, place, shown) in SHOWN {
         let sheet = hex(text);
-        for call in Call::ALL {
+        for call in of_sheets() {
             let refusal = Refusal {
                 call,
                 number,
@@ -301,4 +333,31 @@ fn what_a_sheet_does_not_show() {
             }
         }
     }
+}
+
+/// Role 0 and role 1, and both; some of that is name 0; axioms: everything is
+/// name 0, everything is not that.
+const BOOLEAN: &str = "01 03 00 10 00 10 01 13 02 03 07 04 01 04 05 20 00 01 20 00 06";
+
+#[test]
+fn what_an_axiom_with_a_boolean_role_shows() {
+    let sheet = hex(BOOLEAN);
+    let refusal = crate::export(&sheet, &mut []).unwrap_err();
+    assert_eq!((refusal.number, refusal.place), (20, 18));
+    let shown = "Byte 18 is 20 (rule) and begins record 8: it reaches the link named at byte 11, \
+                 which is record 4 (13, and of links, at byte 7).";
+    assert_shown(refusal, &sheet, shown);
+    let other = Refusal {
+        place: 15,
+        ..refusal
+    };
+    assert_eq!(other.explain(&sheet), other.to_string());
+    assert_eq!(refusal.explain(&hex(S1)), refusal.to_string());
+}
+
+#[test]
+fn what_an_output_needs() {
+    let sheet = hex(S1);
+    let refusal = crate::export(&sheet, &mut [0; 51]).unwrap_err();
+    assert_shown(refusal, &sheet, "The sheet's text takes 52 bytes.");
 }

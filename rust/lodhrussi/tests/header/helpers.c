@@ -24,6 +24,10 @@ static void refusals(void)
     VALUE(LODHRUSSI_QUEUE_BROKEN);
     VALUE(LODHRUSSI_CLASS_FOR_LINK);
     VALUE(LODHRUSSI_RULE_NAMED);
+    VALUE(LODHRUSSI_UNKNOWN_WORD);
+    VALUE(LODHRUSSI_CANNOT_STAND);
+    VALUE(LODHRUSSI_COMPOSED_LINK);
+    VALUE(LODHRUSSI_OUTPUT_TOO_SHORT);
 }
 
 static void verdicts_and_conditions(void)
@@ -77,5 +81,6 @@ int main(void)
         sentence(refusal, 5);
         sentence(refusal, largest);
     }
+    sentence(LODHRUSSI_TOO_MANY_RECORDS, 0);
     return 0;
 }

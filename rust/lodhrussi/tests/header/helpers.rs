@@ -22,6 +22,10 @@ LODHRUSSI_SLOT_TOO_LONG 14
 LODHRUSSI_QUEUE_BROKEN 15
 LODHRUSSI_CLASS_FOR_LINK 16
 LODHRUSSI_RULE_NAMED 17
+LODHRUSSI_UNKNOWN_WORD 18
+LODHRUSSI_CANNOT_STAND 19
+LODHRUSSI_COMPOSED_LINK 20
+LODHRUSSI_OUTPUT_TOO_SHORT 21
 LODHRUSSI_ABSENT 0
 LODHRUSSI_STRUCK 1
 LODHRUSSI_KEPT 2
@@ -58,8 +62,15 @@ fn sentence(number: u64, place: u64) -> String {
         1..=9 | 16 | 17 => Call::Read,
         10 | 11 => Call::Strike,
         12 => Call::ListMarks,
+        18 | 19 => Call::Import,
+        20 | 21 => Call::Export,
         _ => return NO_CALLS.into(),
     };
+    of_call(call, number, place)
+}
+
+/// The sentence of the Rust crate.
+fn of_call(call: Call, number: u64, place: u64) -> String {
     let refusal = Refusal {
         call,
         number,
@@ -75,11 +86,17 @@ fn sentences(text: &mut String) {
     writeln!(text, "{NO_CALLS}").unwrap();
     for number in 0..40 {
         for place in [5, u64::MAX] {
-            let whole = sentence(number, place);
-            let (length, cut) = (whole.len(), &whole[..10]);
-            writeln!(text, "{length} {length} {length} {whole}|{cut}|!").unwrap();
+            lengths(text, &sentence(number, place));
         }
     }
+    // refused by import, 3 has place 0
+    lengths(text, &of_call(Call::Import, 3, 0));
+}
+
+/// A sentence whole and cut, with what each way of writing it answers.
+fn lengths(text: &mut String, whole: &str) {
+    let (length, cut) = (whole.len(), &whole[..10]);
+    writeln!(text, "{length} {length} {length} {whole}|{cut}|!").unwrap();
 }
 
 fn expected() -> String {

@@ -3,6 +3,7 @@
 
 #include <inttypes.h>
 #include <stdio.h>
+#include <string.h>
 
 static const uint8_t s1[] = {0x01, 0x10, 0x00, 0x03, 0x00, 0x07, 0x01, 0x02, 0x20, 0x00, 0x03};
 
@@ -28,6 +29,49 @@ static void refused_read(const uint8_t *sheet, size_t n)
     uint64_t out[5] = {9, 9, 9, 9, 9};
     out[0] = lodhrussi_read(sheet, n, &out[1], &out[2], &out[3], &out[4]);
     line("read", out, 5);
+}
+
+/* The refusal and place of an import or export, the length written, and the bytes of the output. */
+static void written(const char *call, const uint64_t *numbers, const uint8_t *out, size_t len)
+{
+    line(call, numbers, 3);
+    for (size_t i = 0; i < len; i++)
+        printf("%02X%c", out[i], i + 1 < len ? ' ' : '\n');
+}
+
+static void import(const char *text, size_t len)
+{
+    uint64_t numbers[3] = {9, 9, 9};
+    uint8_t out[10] = {9, 9, 9, 9, 9, 9, 9, 9, 9, 9};
+    numbers[0] = lodhrussi_import((const uint8_t *)text, strlen(text), out, len, &numbers[1], &numbers[2]);
+    written("import", numbers, out, sizeof out);
+}
+
+static void export_sheet(const uint8_t *sheet, size_t n, size_t len)
+{
+    uint64_t numbers[3] = {9, 9, 9};
+    uint8_t out[22] = {9, 9, 9, 9, 9, 9, 9, 9, 9, 9, 9, 9, 9, 9, 9, 9, 9, 9, 9, 9, 9, 9};
+    numbers[0] = lodhrussi_export(sheet, n, out, len, &numbers[1], &numbers[2]);
+    written("export", numbers, out, sizeof out);
+}
+
+/* Texts and sheets, in enough room and in too little. */
+static void texts(void)
+{
+    static const uint8_t sheet[] = {0x03, 0x00, 0x03, 0x01, 0x20, 0x00, 0x01};
+    static const uint8_t composed[] = {0x01, 0x10, 0x00, 0x13, 0x01, 0x01, 0x07, 0x02, 0x00, 0x20, 0x00, 0x03};
+    import("SubClassOf(:t0 :t1)", 10);
+    import("SubClassOf(:t0 :t1)", 7);
+    import("SubClassOf(:t0 :t1)", 6);
+    import("SubClassOf(:t0 :t12)", 10);
+    import("SubClassOf(:t0 :k0)", 10);
+    import("SubClassOf ", 10);
+    import("", 0);
+    export_sheet(sheet, sizeof sheet, 22);
+    export_sheet(sheet, sizeof sheet, 20);
+    export_sheet(sheet, sizeof sheet, 19);
+    export_sheet(composed, sizeof composed, 22);
+    export_sheet(composed, 11, 22);
 }
 
 int main(void)
@@ -76,5 +120,7 @@ int main(void)
     refused_read(class_for_link, sizeof class_for_link);
     refused_read(rule_named, sizeof rule_named);
     refused_read(named_twice, sizeof named_twice);
+
+    texts();
     return 0;
 }

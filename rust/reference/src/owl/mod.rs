@@ -8,6 +8,9 @@ mod records;
 mod text;
 mod tokens;
 
+#[cfg(test)]
+mod tests;
+
 use crate::fault::{Fault, Refusal};
 use crate::written::{Axiom, Written};
 

@@ -1,7 +1,8 @@
 use Rattle.std.proofs.Common.{refl, sym, ◌∙◌}
 use Rattle.std.proofs.lemmas.Result.{err_from_is_err_and}
 use Rattle.records.specs.Nodes.{entry_of}
-use Rattle.records.proofs.Faults.{number-some, reference-sort, reference-other, reference-none, reference-past}
+use Rattle.refusals.proofs.Numbering.{number_not_zero}
+use Rattle.records.proofs.Faults.{reference-sort, reference-other, reference-none, reference-past}
 use Rattle.records.proofs.Telling.{sort_some}
 use Rattle.records.proofs.body.reference_fault.Goals as goal
 
@@ -17,7 +18,7 @@ returns-in_err-sort_fault c =
     let p = err_from_is_err_and c.from_residual.result c.from_residual.ensures.1 in
     let f = rw c.sort-found.ensures at c.in_err-sort_fault.ensures in
     rw (c.in-Some.is, p.1, p.2)
-    (f ∙ reference-other _ _ _ (entry_of c.in-Some-record.record) (sort_some c.in-Some.sort) c.in-Some-record.ensures.0 c.in-Some-record.ensures.1 (λ z. number-some _ (f ∙ z)))
+    (f ∙ reference-other _ _ _ (entry_of c.in-Some-record.record) (sort_some c.in-Some.sort) c.in-Some-record.ensures.0 c.in-Some-record.ensures.1 (λ z. number_not_zero _ (f ∙ z)))
 
 pub returns : goal.returns
 unfolding entry_of

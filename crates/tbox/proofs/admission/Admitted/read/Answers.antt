@@ -25,4 +25,4 @@ pub invariant_of-result : goal.invariant_of-result
 invariant_of-result c = record { small = omega arith; few = scanned_few _ _ _ c.in_ok-scanned.ensures }
 
 pub returns : goal.returns
-returns c = record { reading = parts_fit _ _ _ c.in_ok-scanned.ensures (omega (arith, made-length _ _ _ c.in-Ok.ensures)); parts = c.in-Ok.ensures }
+returns c = record { records = (_, c.in_ok-scanned.ensures); reading = parts_fit _ _ _ c.in_ok-scanned.ensures (omega (arith, made-length _ _ _ c.in-Ok.ensures)); parts = c.in-Ok.ensures }

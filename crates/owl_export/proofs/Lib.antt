@@ -1,0 +1,4 @@
+pub mod Emitted
+pub mod Lines
+pub mod Beyond
+pub mod Exporting
