@@ -30,7 +30,7 @@ pub const BOTH_WAYS: [(&str, &str); 6] = [
 ];
 
 /// A text, and what import writes of it in hex.
-pub const IMPORTED: [(&str, Outcome); 34] = [
+pub const IMPORTED: [(&str, Outcome); 36] = [
     // document 02's, with fewer and more blanks
     (
         "SubClassOf(:t0 ObjectComplementOf(:t1))",
@@ -46,6 +46,22 @@ pub const IMPORTED: [(&str, Outcome); 34] = [
     ),
     (" \n", Ok("")),
     ("", Ok("")),
+    // as ontologies have them: a domain, a range, classes that are disjoint; a class put together, with indents
+    (
+        "SubClassOf(ObjectSomeValuesFrom(:k0 owl:Thing) :t3)\n\
+         SubClassOf(owl:Thing ObjectAllValuesFrom(:k0 :t4))\n\
+         SubClassOf(ObjectIntersectionOf(:t3 :t4) owl:Nothing)\n",
+        Ok(
+            "10 00 01 07 00 01 03 03 20 02 03 01 10 00 03 04 08 06 07 20 05 08 \
+            03 03 03 04 05 0A 0B 02 20 0C 0D",
+        ),
+    ),
+    (
+        "SubClassOf(\n    :t0\n    ObjectIntersectionOf(\n        :t1\n        \
+         ObjectSomeValuesFrom(\n            ObjectInverseOf( :k1 )\n            \
+         ObjectIntersectionOf( :t2 ObjectSomeValuesFrom( :k0 :t5 ) )\n        )\n    )\n)\n",
+        Ok("03 00 03 01 11 01 03 02 10 00 03 05 07 04 05 05 03 06 07 02 07 05 01 08 20 00 09"),
+    ),
     // words that are not known
     ("SubClassOf(:t0 :t12)", Err((18, 15))),
     ("SubClassOf(:t0 :t01)", Err((18, 15))),
