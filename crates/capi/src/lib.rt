@@ -1,6 +1,6 @@
 // The functions for C and Rust: numbers and slices only, each a thin call. Each answers the refusal's number, 0 for done; a
-// refusal writes its place, a call that is done its values. Place, words and values are parameters of each call, and open, settle
-// and judge are written out, since the C header fixes every name and parameter.
+// refusal writes its place, a call that is done its values. Place, words and values are parameters of each call, and open, settle,
+// judge, import and export are written out, since the C header fixes every name and parameter.
 #![tactic(auto)]
 
 ghost use Rattle.std.specs.Prelude.{◌≡◌, get_or};

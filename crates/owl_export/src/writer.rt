@@ -26,6 +26,7 @@ impl Writer<'_> {
     ghost use Rattle.owl_export.specs.Emitting.{Emits};
 
     // Puts a text, unless the whole would be too long.
+    // None and no error: what it means is the caller's to say, 21.
     fn put(&mut self, text: &[u8]) -> Option<()>
         ensures { Emits text.now self.old self.new result }
     {
@@ -123,6 +124,7 @@ impl Writer<'_> {
     }
 
     // A form of a role and a concept.
+    // Not one function with `pair`: one that takes the method for the first operand would promise by its calls what is written.
     #[cycle(concept)]
     fn restriction(&mut self, word: &[u8], role: Tree, filler: Tree) -> Option<()>
         ensures { Emits (restriction_text word.now role.entry filler.entry) self.old self.new result }
