@@ -26,7 +26,7 @@ use Rattle.owl_import.specs.Import.{sheet_of, importing, imported}
 use Rattle.owl_export.specs.Export.{calls_for20, first_beyond, export_at, export_of, exporting, exported}
 use Rattle.owl.proofs.Fetching.{Fetched, axioms_fetched}
 use Rattle.owl_import.proofs.Parsing.{Small, Gives, AxiomsTook, parse_gives, axioms_size}
-use Rattle.owl_import.proofs.Laying.{laid-reads, reads-back}
+use Rattle.syntax.proofs.Laying.{laid-reads, reads-back}
 use Rattle.owl_import.proofs.Counting.{axioms-counted, counted-bare}
 use Rattle.owl.proofs.Erasing.{alike-parts, alike-answers, SameAnswers}
 use Rattle.owl_import.proofs.Putting.{trees_from, nodes_trees, axioms-stand, axioms_well}

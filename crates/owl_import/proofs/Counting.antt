@@ -11,7 +11,7 @@ use Rattle.syntax.specs.Laid.{Rec, rec, reach}
 use Rattle.owl_import.specs.RecordsOf.{last_of, put_role, put_concept, put_axiom, put_axioms}
 use Rattle.syntax.specs.WrittenAlike.{bare, bare_axioms, names_in, role_no, roles_in, axioms_names, axioms_roles}
 use Rattle.owl_import.proofs.Parsing.{Small}
-use Rattle.owl_import.proofs.Laying.{reach-append}
+use Rattle.syntax.proofs.Laying.{reach-append}
 
 -- T and L after records
 abbrev names_of : List Rec → ℕ

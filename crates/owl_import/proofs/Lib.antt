@@ -1,4 +1,3 @@
-pub mod Laying
 pub mod Parsing
 pub mod Putting
 pub mod Counting

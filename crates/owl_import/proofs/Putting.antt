@@ -20,7 +20,7 @@ use Rattle.syntax.specs.WrittenAlike.{bare, bare_axiom, bare_axioms}
 use Rattle.owl_import.proofs.Parsing.{Small}
 use Rattle.owl_import.proofs.Parsing.{size, axioms_size}
 use Rattle.syntax.proofs.Queue.{axioms-append}
-use Rattle.owl_import.proofs.Laying.{reads-back, reach-append, follows-append}
+use Rattle.syntax.proofs.Laying.{reads-back, reach-append, follows-append}
 
 -- the trees of records
 abbrev pub tree_of : List Node → Rec → Node

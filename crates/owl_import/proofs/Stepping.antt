@@ -15,7 +15,7 @@ use Rattle.owl_import.specs.RecordsOf.{put_role, joins, put_concept}
 use Rattle.records.specs.Shapes.{shape_of}
 use Rattle.std.specs.Result.{IsErrAnd}
 use Rattle.std.proofs.lemmas.Result.{err_from_is_err_and}
-use Rattle.owl_import.proofs.Laying.{laid-append}
+use Rattle.syntax.proofs.Laying.{laid-append}
 use Rattle.owl_import.specs.Steps.{Stored, Wrote, Put, Reads, Next, Wrong, Expects, Opens, Moves, LeafRead, OpeningRead, ClosingRead, PropertyRead, RoleRead, ConceptRead, both, FormRead}
 
 pub wrong_other : (w : Word) → w ≢ Unknown → wrong_no w ≡ 19

@@ -3,6 +3,7 @@ pub mod Bounded
 pub mod Distinct
 pub mod Fewer
 pub mod Formed
+pub mod Laying
 pub mod ListBytes
 pub mod NormalForm
 pub mod Prefix
