@@ -7,8 +7,9 @@
  *     cc -I include program.c crates/capi/out/libcapi.a
  *
  * docs/FORMAT.md has the format of a sheet, what a sheet means, and each call at length. In description logic a sheet is a
- * knowledge base, a rule an axiom, a trait a concept name, a link a role, a mark a part of the flattened knowledge base, a mark set
- * a label, a pairing a domino, loose is defective, and a plant that keeps the sheet is a finite interpretation that is a model.
+ * knowledge base, a rule an axiom, a link rule a role inclusion, a trait a concept name, a link a role, a mark a part of the
+ * flattened knowledge base, a mark set a label, a pairing a domino, loose is defective, and a plant that keeps the sheet is a
+ * finite interpretation that is a model.
  *
  * Results. Every call returns the number of its refusal (enum lodhrussi_refusal), 0 for done.
  *   *place is written on a refusal and only then: the byte of the offending reference for 5, 6, 7, 16 and 17, the byte where the
@@ -53,7 +54,7 @@ enum lodhrussi_refusal {
     LODHRUSSI_NOT_EARLIER = 5,      /* a reference that names no earlier record */
     LODHRUSSI_LINK_FOR_CLASS = 6,   /* a link where a class is wanted */
     LODHRUSSI_NAMED_AGAIN = 7,      /* already named once and not allowed again */
-    LODHRUSSI_LINK_ON_EMPTY = 8,    /* the link of a some or only holds on the empty set of links */
+    LODHRUSSI_LINK_ON_EMPTY = 8,    /* the link of a some or only, or the first of a link rule, holds on the empty set of links */
     LODHRUSSI_TOO_MANY_MARKS = 9,   /* c + L above 12 */
     LODHRUSSI_SET_TOO_SHORT = 10,   /* fewer words than lodhrussi_words_needed */
     LODHRUSSI_NO_SUCH_PAIRING = 11, /* number not below 2^(2c+2L) */
@@ -64,7 +65,7 @@ enum lodhrussi_refusal {
     LODHRUSSI_RULE_NAMED = 17,      /* rules are never named */
     LODHRUSSI_UNKNOWN_WORD = 18,    /* a word of a text that is not known */
     LODHRUSSI_CANNOT_STAND = 19,    /* a known word or parenthesis that cannot stand there, or a text that ends inside a form */
-    LODHRUSSI_COMPOSED_LINK = 20,   /* a rule with a link that has not, and, or */
+    LODHRUSSI_COMPOSED_LINK = 20,   /* a rule with a link that has not, and, or; or a link rule */
     LODHRUSSI_OUTPUT_TOO_SHORT = 21 /* fewer bytes than are to be written */
 };
 
@@ -75,11 +76,12 @@ enum lodhrussi_verdict {
     LODHRUSSI_KEPT = 2    /* in it and not loose */
 };
 
-/* The conditions, in the order in which they are tested: what is wrong where one fails. */
+/* The conditions, in the order in which they are tested, 7 before 4: what is wrong where one fails. */
 enum lodhrussi_condition {
     LODHRUSSI_KB = 1,     /* the left side breaks a rule of the sheet */
     LODHRUSSI_EX = 2,     /* the left side lacks a 'some' claim that the right side meets */
     LODHRUSSI_UNI = 3,    /* the right side breaks an 'only' claim of the left side */
+    LODHRUSSI_RBOX = 7,   /* the links between the two sides break a link rule of the sheet */
     LODHRUSSI_DELEX = 4,  /* a partner for a 'some' claim is missing */
     LODHRUSSI_DELUNI = 5, /* the left side lacks an 'only' claim, and a partner that would break it is missing */
     LODHRUSSI_SYM = 6     /* its mirror image is missing */
@@ -121,7 +123,7 @@ static inline const char *lodhrussi_refusal_sentence(uint64_t refusal)
     case LODHRUSSI_NAMED_AGAIN:
         return "The reference names a record that was named before and may be named only once.";
     case LODHRUSSI_LINK_ON_EMPTY:
-        return "The record is a some or only whose link holds on the empty set of links; it must fail there.";
+        return "The record is a some, only or link rule whose first link holds on the empty set of links.";
     case LODHRUSSI_TOO_MANY_MARKS:
         return "The sheet has more than 12 marks and links together.";
     case LODHRUSSI_SET_TOO_SHORT:
@@ -135,7 +137,7 @@ static inline const char *lodhrussi_refusal_sentence(uint64_t refusal)
     case LODHRUSSI_CANNOT_STAND:
         return "The text goes on with what cannot stand there, or ends inside a form.";
     case LODHRUSSI_COMPOSED_LINK:
-        return "The rule has a link with not, and, or; OWL 2 has no such links.";
+        return "The rule is a link rule or has a link with not, and, or; the text of a sheet has neither.";
     case LODHRUSSI_OUTPUT_TOO_SHORT:
         return "The output is too short for what is to be written.";
     default:
@@ -200,7 +202,7 @@ uint64_t lodhrussi_read(const uint8_t *sheet, size_t n, uint64_t *place, uint64_
 uint64_t lodhrussi_list_marks(const uint8_t *sheet, size_t n, uint8_t *list, size_t len, uint64_t *place);
 
 /*
- * Open. Writes the opening set, all pairings that meet kb, ex and uni, and answers its size.
+ * Open. Writes the opening set, all pairings that meet kb, ex, uni and rbox, and answers its size.
  * Refuses: as read does, then 10.
  */
 uint64_t lodhrussi_open(const uint8_t *sheet, size_t n, uint64_t *set, size_t words, uint64_t *place, uint64_t *size);
@@ -244,7 +246,8 @@ uint64_t lodhrussi_import(const uint8_t *text, size_t n, uint8_t *out, size_t le
  * feed and no other spaces, and answers its length, some 12 KB at most. Bytes past those written are kept. Imported again, unless
  * that is refused 3 or 21, it gives a sheet with the same rules and the same verdict; also the same opening set and survivors if
  * the sheet's trait and link numbers all occur in rules.
- * Refuses: as read does; then 20 at the byte where the first rule starts that reaches a link with not, and, or; then 21.
+ * Refuses: as read does; then 20 at the byte where the first rule starts that reaches a link with not, and, or, or the first link
+ * rule, whichever comes first; then 21.
  * Calls nest at most 255 records deep, and run on a stack of 256 KB.
  */
 uint64_t lodhrussi_export(const uint8_t *sheet, size_t n, uint8_t *out, size_t len, uint64_t *place, uint64_t *written);

@@ -12,7 +12,7 @@ WORKED = [
 ]
 # Fillers that are no part.
 EVERYTHING, NOTHING = 256, 257
-BODY = {1: 0, 2: 0, 3: 1, 4: 1, 5: 2, 6: 2, 7: 2, 8: 2, 0x10: 1, 0x11: 1, 0x12: 1, 0x13: 2, 0x14: 2, 0x20: 2}
+BODY = {1: 0, 2: 0, 3: 1, 4: 1, 5: 2, 6: 2, 7: 2, 8: 2, 0x10: 1, 0x11: 1, 0x12: 1, 0x13: 2, 0x14: 2, 0x20: 2, 0x21: 2}
 
 
 def records(data):
@@ -89,6 +89,11 @@ def holds(rs, r, roles):
         return bool(roles >> (2 * b[0] + kind - 0x10) & 1)
     values = [holds(rs, x, roles) for x in b]
     return not values[0] if kind == 0x12 else (all if kind == 0x13 else any)(values)
+
+
+def included(rs, roles):
+    """Whether a role set meets every role inclusion."""
+    return all(holds(rs, r[2], roles) or not holds(rs, r[1], roles) for r in rs if r[0] == 0x21)
 
 
 def words(test, count):

@@ -3,8 +3,9 @@
 compares each verdict with those of Konclude (OWL 2 functional-style syntax) and FaCT++ (its own syntax), Debian's packages
 konclude and fact++. Prints a table; exits 1 if a verdict differs or the program refuses a sheet. A verdict that differs is
 counted apart, under 'contradict', where the reasoner contradicts itself: a model of all axioms, yet none with one left out.
+With --inclusions each sheet has role inclusions as well, between roles and their inverses.
 
-    tools/outside.py [--count N] [--seed N] [--program PATH] [--ask NAME ...] [--limit SECONDS]
+    tools/outside.py [--inclusions] [--count N] [--seed N] [--program PATH] [--ask NAME ...] [--limit SECONDS]
 """
 
 import argparse
@@ -18,8 +19,8 @@ from pathlib import Path
 
 MOST_PARTS_AND_ROLES = 9
 EVERYTHING, NOTHING, NAME, NOT, AND, OR, SOME, ONLY = range(1, 9)
-ROLE, INVERSE, AXIOM = 0x10, 0x11, 0x20
-BODY = {EVERYTHING: 0, NOTHING: 0, NAME: 1, NOT: 1, AND: 2, OR: 2, SOME: 2, ONLY: 2, ROLE: 1, INVERSE: 1, AXIOM: 2}
+ROLE, INVERSE, ROLE_AND, AXIOM, INCLUSION = 0x10, 0x11, 0x13, 0x20, 0x21
+BODY = {EVERYTHING: 0, NOTHING: 0, NAME: 1, NOT: 1, AND: 2, OR: 2, SOME: 2, ONLY: 2, ROLE: 1, INVERSE: 1, AXIOM: 2, INCLUSION: 2}
 MET, UNMET = "met", "unmet"
 AGREE, DIFFER, WAVER, LATE, SILENT = COLUMNS = "agree", "differ", "contradict", "timeouts", "no answer"
 
@@ -36,13 +37,17 @@ def random_concept(rng, names, roles, depth):
     if kind == NAME:
         return kind, rng.randrange(names)
     if kind in (SOME, ONLY):
-        return kind, (rng.choice((ROLE, INVERSE)), rng.randrange(roles)), random_concept(rng, names, roles, depth - 1)
+        return kind, random_role(rng, roles), random_concept(rng, names, roles, depth - 1)
     return kind, *(random_concept(rng, names, roles, depth - 1) for _ in range(BODY[kind]))
+
+
+def random_role(rng, roles):
+    return rng.choice((ROLE, INVERSE)), rng.randrange(roles)
 
 
 def random_axiom(rng, names, roles):
     left = (EVERYTHING,) if rng.random() < 0.5 else random_concept(rng, names, roles, rng.choice((0, 0, 0, 1, 1, 2)))
-    return left, random_concept(rng, names, roles, rng.choice((1, 1, 2, 2, 3)))
+    return AXIOM, left, random_concept(rng, names, roles, rng.choice((1, 1, 2, 2, 3)))
 
 
 def parts(concept, positive):
@@ -63,14 +68,41 @@ def is_atom(concept, positive):
     return concept[0] in (EVERYTHING, NOTHING) or concept[0] == NAME and positive
 
 
+def size(names, roles, axioms):
+    return names + roles + sum(parts(left, False) + parts(right, True) for kind, left, right in axioms if kind == AXIOM)
+
+
 def random_axioms(rng):
     """Axioms with few enough parts and roles for the evening program's set; about a third of the lists have no model."""
     while True:
         names, roles = rng.choice((1, 1, 2, 2, 3, 4)), rng.choice((1, 1, 1, 2, 2, 3))
         axioms = [random_axiom(rng, names, roles) for _ in range(rng.randint(3, 10))]
-        size = names + roles + sum(parts(left, False) + parts(right, True) for left, right in axioms)
-        if size <= MOST_PARTS_AND_ROLES:
+        if size(names, roles, axioms) <= MOST_PARTS_AND_ROLES:
             return axioms
+
+
+def random_inclusion(rng, names, roles):
+    """An inclusion and, as often as not, axioms on both of its roles: on the first some of a concept, on the second only of what
+    is not of it."""
+    first, second = random_role(rng, roles), random_role(rng, roles)
+    rules = [(INCLUSION, first, second)]
+    if rng.random() < 0.5:
+        left, right, filler = (random_concept(rng, names, roles, 0) for _ in range(3))
+        rules += [(AXIOM, rng.choice(((EVERYTHING,), left)), (SOME, first, filler))]
+        rules += [(AXIOM, rng.choice(((EVERYTHING,), right)), (ONLY, second, (NOT, filler)))]
+    return rules
+
+
+def random_rules(rng):
+    """The same with one to four role inclusions between roles and their inverses, on two roles or more mostly."""
+    while True:
+        names, roles = rng.choice((1, 1, 2, 2, 3)), rng.choice((1, 2, 2, 2, 3))
+        rules = [random_axiom(rng, names, roles) for _ in range(rng.randint(1, 6))]
+        for _ in range(rng.choice((1, 1, 2, 2, 3, 4))):
+            rules += random_inclusion(rng, names, roles)
+        rng.shuffle(rules)
+        if size(names, roles, rules) <= MOST_PARTS_AND_ROLES:
+            return rules
 
 
 def sheet(rng, axioms):
@@ -92,7 +124,18 @@ def sheet(rng, axioms):
         return put(kind, *[write(child) for child in body])
 
     for axiom in axioms:
-        write((AXIOM, *axiom))
+        write(axiom)
+    return bytes(data)
+
+
+def without_inclusions(data):
+    """The bytes with an and of the same roles, which no axiom reaches, in place of each inclusion."""
+    data, at = bytearray(data), 0
+    while at < len(data):
+        length = 1 + BODY[data[at]]
+        if data[at] == INCLUSION:
+            data[at] = ROLE_AND
+        at += length
     return bytes(data)
 
 
@@ -105,7 +148,7 @@ def axioms_of(data):
         at += 1 + len(body)
         leaf = kind in (NAME, ROLE, INVERSE)
         trees.append((kind, *(body if leaf else (trees[r] for r in body))))
-        if kind == AXIOM:
+        if kind in (AXIOM, INCLUSION):
             axioms.append(trees[-1])
     return axioms
 
@@ -122,11 +165,13 @@ OWL = {
     EVERYTHING: "owl:Thing", NOTHING: "owl:Nothing", NAME: ":A{}", ROLE: ":r{}", INVERSE: "ObjectInverseOf(:r{})",
     NOT: "ObjectComplementOf({})", AND: "ObjectIntersectionOf({} {})", OR: "ObjectUnionOf({} {})",
     SOME: "ObjectSomeValuesFrom({} {})", ONLY: "ObjectAllValuesFrom({} {})", AXIOM: "SubClassOf({} {})",
+    INCLUSION: "SubObjectPropertyOf({} {})",
 }
 OWL_DECLARED = {NAME: "Declaration(Class(:A{}))", ROLE: "Declaration(ObjectProperty(:r{}))"}
 FACT = {
     EVERYTHING: "*TOP*", NOTHING: "*BOTTOM*", NAME: "A{}", ROLE: "r{}", INVERSE: "(inv r{})",
     NOT: "(not {})", AND: "(and {} {})", OR: "(or {} {})", SOME: "(some {} {})", ONLY: "(all {} {})", AXIOM: "(implies_c {} {})",
+    INCLUSION: "(implies_r {} {})",
 }
 FACT_DECLARED = {NAME: "(defprimconcept A{})", ROLE: "(defprimrole r{})"}
 
@@ -201,6 +246,7 @@ def judged(program, data):
 def main():
     home = Path(__file__).resolve().parent.parent
     options = argparse.ArgumentParser(description=__doc__, formatter_class=argparse.RawDescriptionHelpFormatter)
+    options.add_argument("--inclusions", action="store_true", help="sheets with role inclusions too")
     options.add_argument("--count", type=int, default=2000, help="number of sheets (2000)")
     options.add_argument("--seed", type=int, default=1, help="seed of the sheets (1)")
     options.add_argument("--program", default=home / "crates/evening/out/evening", help="the evening program (crates/evening/out/evening)")
@@ -215,10 +261,12 @@ def main():
     own, others = Counter(), {name: Counter() for name in given.ask}
     with tempfile.TemporaryDirectory() as folder:
         for _ in range(given.count):
-            data = sheet(rng, random_axioms(rng))
+            data = sheet(rng, random_rules(rng) if given.inclusions else random_axioms(rng))
             ours, initial = judged(given.program, data)
             own[ours] += 1
             own["eliminated"] += ours == UNMET and initial > 0
+            if given.inclusions and ours == UNMET:
+                own["by inclusions"] += judged(given.program, without_inclusions(data))[0] == MET
             for name in given.ask:
                 said = opinion(lambda axioms: REASONERS[name](Path(folder), axioms, given.limit), axioms_of(data), ours)
                 others[name][said] += 1
@@ -226,7 +274,8 @@ def main():
                     print(f"{name}: {said}; the program: {ours}; sheet {data.hex(' ')}")
 
     print(f"seed {given.seed}: {given.count} sheets, {own[MET]} met, {own[UNMET]} unmet, "
-          f"{own['eliminated']} of these with an initial domino set that is not empty")
+          f"{own['eliminated']} of these with an initial domino set that is not empty"
+          + f", {own['by inclusions']} met without their inclusions" * given.inclusions)
     print(f"{'':12}" + "".join(f"{column:>12}" for column in COLUMNS))
     for name in given.ask:
         print(f"{name:12}" + "".join(f"{others[name][column]:12}" for column in COLUMNS))

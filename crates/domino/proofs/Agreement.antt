@@ -18,14 +18,14 @@ use Rattle.elimination.proofs.Settling.{same_by, stable-at, stable-by, settled-s
 use Rattle.elimination.proofs.Written.{written_same}
 use Rattle.elimination.proofs.Quantifiers.{all_same, any_same}
 use Rattle.syntax.specs.Flatten.{everything, nothing, name_a, Filler, atomic, fresh, Part, name_p, fresh_p, exists_p, forall_p, part_at}
-use Rattle.syntax.specs.Truth.{kb_on}
+use Rattle.syntax.specs.Truth.{kb_on, rbox_on}
 use Rattle.syntax.specs.Parts.{role_holds}
 use Rattle.tbox.specs.Promise.{filler_is, kind_is, Flattened}
 use Rattle.tbox.specs.declared.base.Kind.{Kind}
 use Rattle.syntax.specs.Reading.{Kb, flats_of, parts_of}
 use Rattle.tbox.specs.declared.base.Base.{Base}
 use Rattle.semantics.specs.Dominoes.{Dominoes, left_of, roles_of, right_of_lem, numbered}
-use Rattle.semantics.specs.Conditions.{View, kb, ex, uni, witness, delex, deluni, sym, initially, dominoes, initial, defective, defect_at, canon}
+use Rattle.semantics.specs.Conditions.{View, kb, ex, uni, rbox, witness, delex, deluni, sym, initially, dominoes, initial, defective, defect_at, canon}
 use Rattle.semantics.specs.Views.{filler_in, has_filler, kb_view}
 use Rattle.semantics.proofs.Numbers.{domino_of}
 use Rattle.semantics.proofs.Defects.{defect_cases, defective-is, defective_monotone}
@@ -71,11 +71,12 @@ pub record Agree (v w : View) : Type 0 where
   pub holds : (k R : ℕ) → k < v.parts → R < 2 ^ (2 * v.roles) → v.holds k R ≡ w.holds k R
   pub has : (k B : ℕ) → k < v.parts → 2 ≤ v.kind k → v.has k B ≡ w.has k B
   pub good : (A : ℕ) → A < 2 ^ v.parts → v.good A ≡ w.good A
+  pub closed : (R : ℕ) → R < 2 ^ (2 * v.roles) → v.closed R ≡ w.closed R
 
 module _ (v w : View) (a : Agree v w) where
   -- w with the counts of v
   abbrev counted : ℕ → ℕ → View
-  counted c l = record { parts = c; roles = l; kind = w.kind; holds = w.holds; has = w.has; good = w.good }
+  counted c l = record { parts = c; roles = l; kind = w.kind; holds = w.holds; has = w.has; good = w.good; closed = w.closed }
 
   abbrev u : View
   u = counted v.parts v.roles
@@ -123,6 +124,10 @@ module _ (v w : View) (a : Agree v w) where
   unfolding kb
   kb_same A h = a.good A h
 
+  rbox_same : (R : ℕ) → R < 2 ^ (2 * v.roles) → rbox v R ≡ rbox u R
+  unfolding rbox
+  rbox_same R h = a.closed R h
+
   -- ---- on numbers
 
   initial_same : Same (dominoes v) (initial v) (initial u)
@@ -131,7 +136,7 @@ module _ (v w : View) (a : Agree v w) where
       let d = domino_of v.parts v.roles n h in
       let A : ℕ = left_of v.parts v.roles n in
       let B : ℕ = right_of_lem v.parts n in
-      rw (kb_same A d.left, ex_same A _ B d.roles, uni_same A _ B d.roles)
+      rw (kb_same A d.left, ex_same A _ B d.roles, uni_same A _ B d.roles, rbox_same _ d.roles)
 
   defect_same : (S : Set) (n : ℕ) → n < dominoes v → defect_at v S n ≡ defect_at u S n
   unfolding defect_at sym
@@ -147,6 +152,7 @@ module _ (v w : View) (a : Agree v w) where
         kb_same A d.left,
         ex_same A R B d.roles,
         uni_same A R B d.roles,
+        rbox_same R d.roles,
         delex_same D A,
         deluni_same D A,
       )
@@ -240,4 +246,9 @@ base_agrees k b f = record {
       ap (λ (x : ℕ). bit x (A % 64)) (f.good (A / 64) (omega arith))
       ∙ bit_word_at (kb_on (flats_of k)) (A / 64) (A % 64) (omega arith)
       ∙ ap (kb_on (flats_of k)) (omega arith);
+  closed = λ R l.
+      let r = few_sets b.size.roles R b.few l in
+      ap (λ (x : ℕ). bit x (R % 64)) (f.closed (R / 64) (omega arith))
+      ∙ bit_word_at (rbox_on k.inclusions) (R / 64) (R % 64) (omega arith)
+      ∙ ap (rbox_on k.inclusions) (omega arith);
 }

@@ -80,11 +80,11 @@ module _ (v : View) (S : Set) (n : ℕ) where
   unfolding defect_at
   at_passes = passes_defect v _ _ _ _
 
-  at_le : defect_at v S n ≤ 6
+  at_le : defect_at v S n ≤ 7
   unfolding defect_at
   at_le = defect_le v _ _ _ _
 
-  at-later : initial v n ≡ true → (defect_at v S n ≡ 0 → ⊥) → 4 ≤ defect_at v S n
+  at-later : initial v n ≡ true → (defect_at v S n ≡ 0 → ⊥) → (4 ≤ defect_at v S n) × (defect_at v S n ≤ 6)
   unfolding defect_at initial
   at-later = defect-later v _ _ _ _
 
@@ -182,7 +182,8 @@ resting_of k ws t h =
           is_true (initial v n)
           (after-initial (held v) (dominoes v) (initial v) (lacks v) (lacks_monotone v) (words-room (dominoes v)) cs ws t h n w.0
           (T_of (ap (λ (l : List ℕ). look l n) (calls_leave_lem k cs ws h)) (of_true w.1))) in
-          omega (arith, at-later v (look us) n o (λ q. omega (arith, w.2, w.3, q)), w.3);
+          let m = at-later v (look us) n o (λ q. omega (arith, w.2, w.3, q)) in
+          (omega (arith, m.0, w.3), omega (arith, m.1, w.3));
     }
 
 -- ---- for a sheet that is read

@@ -19,18 +19,18 @@ use Rattle.elimination.proofs.Settling.{settled_same}
 use Rattle.elimination.proofs.Tables.{settled_words_same, settled_words-is}
 use Rattle.elimination.proofs.Written.{written-long, written-look}
 use Rattle.elimination.proofs.Passes.{passes_of_test}
-use Rattle.records.specs.Shapes.{shape_of, is_leaf_lem, is_restriction_lem}
+use Rattle.records.specs.Shapes.{shape_of, is_leaf_lem, needs_restricted_lem}
 use Rattle.records.specs.Scan.{scan_sheet, scan, record_fault, record_after, after, names_after_lem, roles_after_lem, body_fault, number_fault_lem, reference_fault_lem, empty_fault_lem, vacuous_of_lem, name}
-use Rattle.syntax.specs.Concepts.{nodes_of, nodes_from, node_of, axioms_of, axiom_of}
+use Rattle.syntax.specs.Concepts.{nodes_of, nodes_from, node_of, axioms_of, axiom_of, inclusions_of, inclusion_of}
 use Rattle.syntax.specs.Normal.{plain, negated, axiom_nf}
 use Rattle.syntax.specs.Flatten.{flatten_by, run_by, walk_pending_by, walk_by, meet_one, placed, shared, find_from, alike, like_exists, like_forall, same_role_lem, same_filler, same_atom, yes_no, atom, restrictions, weight, weights, name_parts_lem, pendings}
-use Rattle.syntax.specs.Truth.{eval, kb_on, role_on}
+use Rattle.syntax.specs.Truth.{eval, kb_on, role_on, rbox_on}
 use Rattle.syntax.specs.Parts.{kind_of, role_holds}
 use Rattle.syntax.specs.Reading.{Kb, Reading, refusal, kb, read_kb, reading, admit}
 use Rattle.syntax.specs.Answers.{limit, read_says}
 use Rattle.syntax.specs.Examples.{s4}
 use Rattle.semantics.specs.Dominoes.{number, left_of, roles_of, right_of_lem, inverse, numbered}
-use Rattle.semantics.specs.Conditions.{View, first_failing, kb as good, ex, uni, witness, delex, deluni, sym, condition, defect, initially, sustained, dominoes, initial, lacks, defective, defect_at, canon, held}
+use Rattle.semantics.specs.Conditions.{View, first_failing, kb as good, ex, uni, rbox, witness, delex, deluni, sym, condition, defect, initially, sustained, dominoes, initial, lacks, defective, defect_at, canon, held}
 use Rattle.semantics.specs.Views.{filler_in, has_filler, kb_view}
 use Rattle.semantics.proofs.Defects.{defective_monotone}
 use Rattle.domino.specs.Answers.{is_short, on_set, says_on_set, leaves_on_set, verdict_of, open_says, open_leaves, strike_says, strike_leaves, settle_says, judge_says, judge_leaves}
@@ -67,7 +67,7 @@ computed r = read_row (read_kb limit r.sheet) r.sheet (read_says (read_kb limit 
 -- the tables; of S4 its row, the knowledge base, the number of dominoes and the passes
 all_computed : (map computed table ≡ table) × (map tried strikes ≡ strikes)
     × (computed row4 ≡ row4) × (read_kb limit s4 ≡ kb kb4) × (dominoes (kb_view kb4) ≡ 16) × T (has_passes 16 8 passes4)
-unfolding read_says strike_says strike_leaves open_leaves says_on_set leaves_on_set on_set verdict_of cleared read_kb reading admit flatten_by run_by walk_pending_by walk_by meet_one placed shared find_from alike like_exists like_forall same_role_lem same_filler same_atom yes_no ℕ_discrete atom restrictions weight weights name_parts_lem pendings plain negated axiom_nf nodes_of nodes_from node_of axioms_of axiom_of scan_sheet scan record_fault record_after after names_after_lem roles_after_lem body_fault number_fault_lem reference_fault_lem empty_fault_lem vacuous_of_lem name shape_of is_leaf_lem is_restriction_lem eval kb_on role_on kind_of role_holds number left_of roles_of right_of_lem inverse numbered good ex uni witness delex deluni sym first_failing condition defect initially sustained initial lacks defect_at filler_in has_filler word word_at words_from size every some
+unfolding read_says strike_says strike_leaves open_leaves says_on_set leaves_on_set on_set verdict_of cleared read_kb reading admit flatten_by run_by walk_pending_by walk_by meet_one placed shared find_from alike like_exists like_forall same_role_lem same_filler same_atom yes_no ℕ_discrete atom restrictions weight weights name_parts_lem pendings plain negated axiom_nf nodes_of nodes_from node_of axioms_of axiom_of inclusions_of inclusion_of scan_sheet scan record_fault record_after after names_after_lem roles_after_lem body_fault number_fault_lem reference_fault_lem empty_fault_lem vacuous_of_lem name shape_of is_leaf_lem needs_restricted_lem eval kb_on role_on rbox_on kind_of role_holds number left_of roles_of right_of_lem inverse numbered good ex uni rbox witness delex deluni sym first_failing condition defect initially sustained initial lacks defect_at filler_in has_filler word word_at words_from size every some
 all_computed = (refl, refl, refl, refl, refl, tt)
 
 -- ---- the definitions' answers are those

@@ -34,9 +34,9 @@ pub record DecidedRightly (k : Kb) (before after : List ℕ) (opening survivors 
   -- the words needed are there
   pub enough : held (kb_view k) ≤ length before
   -- "says "can be met"" exactly if some finite plant of at least one item keeps the sheet,
-  pub can_be_met : (met ≡ true) ↔ Satisfiable k.axioms
+  pub can_be_met : (met ≡ true) ↔ Satisfiable k
   -- and "cannot be met" exactly if none does
-  pub cannot_be_met : (met ≡ false) ↔ ((I : Interpretation) → 0 < I.individuals → models I k.axioms ≡ true → ⊥)
+  pub cannot_be_met : (met ≡ false) ↔ ((I : Interpretation) → 0 < I.individuals → models I k ≡ true → ⊥)
   -- "Judging a sheet leaves the largest set of pairings in which none is loose": the canonical set, which is that set,
   pub members : (A R B : ℕ) → Domino (kb_view k).parts (kb_view k).roles A R B
       → look after (number (kb_view k).parts (kb_view k).roles A R B) ≡ canon_dominoes (kb_view k) A R B
@@ -45,7 +45,7 @@ pub record DecidedRightly (k : Kb) (before after : List ℕ) (opening survivors 
   pub words : after ≡ written (held (kb_view k)) (dominoes (kb_view k)) (canon (kb_view k)) before
   pub past : drop (held (kb_view k)) after ≡ drop (held (kb_view k)) before
   -- "Every finite plant of at least one item that keeps the sheet has all its pairings in that set."
-  pub models-inside : (I : Interpretation) → models I k.axioms ≡ true
+  pub models-inside : (I : Interpretation) → models I k ≡ true
       → (A R B : ℕ) → projection I k A R B ≡ true → look after (number (kb_view k).parts (kb_view k).roles A R B) ≡ true
   -- "answers the opening size, the survivor count"
   pub opening-size : opening ≡ size (dominoes (kb_view k)) (initial (kb_view k))

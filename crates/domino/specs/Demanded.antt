@@ -126,9 +126,9 @@ pub record NeverStranded (s : Reading) (v : View) (ws : List ℕ) : Type 0 where
 
 -- "Every finite plant of at least one item that keeps the sheet has all its pairings in that set."
 pub record Demand2Models (k : Kb) : Type 0 where
-  pub inside : (I : Interpretation) → models I k.axioms ≡ true
+  pub inside : (I : Interpretation) → models I k ≡ true
       → (A R B : ℕ) → projection I k A R B ≡ true → canon_dominoes (kb_view k) A R B ≡ true
-  pub met : (I : Interpretation) → 0 < I.individuals → models I k.axioms ≡ true → Met (canon_dominoes (kb_view k))
+  pub met : (I : Interpretation) → 0 < I.individuals → models I k ≡ true → Met (canon_dominoes (kb_view k))
 
 -- demand 3: single calls
 pub record Demand3Calls (s : Reading) (v : View) (ws : List ℕ) : Type 0 where

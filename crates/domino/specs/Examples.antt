@@ -6,7 +6,7 @@ use Rattle.elimination.specs.Calls.{Call, strike as call, settle}
 use Rattle.syntax.specs.Concepts.{named, top_c, bottom_c, forall_c}
 use Rattle.syntax.specs.Reading.{Kb, read_kb}
 use Rattle.syntax.specs.Answers.{limit, read_says}
-use Rattle.syntax.specs.Examples.{s1, s2, s3, s4, s5, s6, thrice}
+use Rattle.syntax.specs.Examples.{s1, s2, s3, s4, s5, s6, thrice, without_inclusion, with_inclusion}
 use Rattle.semantics.specs.Dominoes.{total}
 use Rattle.domino.specs.Answers.{open_says, open_leaves, strike_says, strike_leaves, settle_says, judge_says, judge_leaves}
 
@@ -75,8 +75,12 @@ refused s l n p = row s (n ∷ p ∷ []) l (n ∷ p ∷ []) l (n ∷ p ∷ []) (
 abbrev pub row4 : Row
 row4 = works s4 (counts 0 1 1) one 8 0 0 opened4 (0 ∷ [])
 
+-- everything is some k0 everything, and k0 is within not k0, which holds on the empty set
+abbrev within_not : List ℕ
+within_not = 0x01 ∷ 0x10 ∷ 0x00 ∷ 0x07 ∷ 0x01 ∷ 0x00 ∷ 0x20 ∷ 0x00 ∷ 0x02 ∷ 0x12 ∷ 0x01 ∷ 0x21 ∷ 0x01 ∷ 0x04 ∷ []
+
 -- after the sheets of 01: everything is t0 and t1; one restriction in three axioms, whose opening and survivors "now speak of the
--- shared marks" (02, N4)
+-- shared marks" (02, N4); two links, the first within the second, or the second within the first (02, N8)
 abbrev pub table : List Row
 table =
     works [] (counts 0 0 0) one 1 1 1 (1 ∷ []) (1 ∷ []) ∷
@@ -102,6 +106,11 @@ table =
     works (0x01 ∷ 0x03 ∷ 0x00 ∷ 0x03 ∷ 0x01 ∷ 0x05 ∷ 0x01 ∷ 0x02 ∷ 0x20 ∷ 0x00 ∷ 0x03 ∷ []) (counts 2 0 2) one 4 1 1
     (0xf000 ∷ []) (0x8000 ∷ []) ∷
     works thrice (counts 1 1 2) one 32 16 1 opened1 (0xcccccccc00000000 ∷ []) ∷
+    works without_inclusion (counts 0 2 2) four 32 4 1 (0 ∷ 0 ∷ 0 ∷ 0xffff0000ffff ∷ []) (0 ∷ 0 ∷ 0 ∷ 0x8888 ∷ []) ∷
+    works with_inclusion (counts 0 2 2) four 16 0 0 (0 ∷ 0 ∷ 0 ∷ 0xf0f00000f0f ∷ []) (0 ∷ 0 ∷ 0 ∷ 0 ∷ []) ∷
+    works (without_inclusion ++ (0x21 ∷ 0x02 ∷ 0x01 ∷ [])) (counts 0 2 2) four 32 4 1 (0 ∷ 0 ∷ 0 ∷ 0xffff0000ffff ∷ [])
+    (0 ∷ 0 ∷ 0 ∷ 0x8888 ∷ []) ∷
+    works within_not (counts 0 1 1) one 4 0 0 (0x3300 ∷ []) (0 ∷ []) ∷
     []
 
 -- a strike: a sheet, the words before, a number; what strike says, and what it leaves
@@ -131,9 +140,24 @@ abbrev some_and_only : List ℕ
 some_and_only =
     0x01 ∷ 0x10 ∷ 0x00 ∷ 0x03 ∷ 0x00 ∷ 0x07 ∷ 0x01 ∷ 0x02 ∷ 0x08 ∷ 0x01 ∷ 0x00 ∷ 0x20 ∷ 0x00 ∷ 0x03 ∷ 0x20 ∷ 0x02 ∷ 0x04 ∷ []
 
+-- everything is only k0 nothing, and k0 is within k1; everything is some k0 everything, and k1 is within k0; everything is everything
+-- or only k0 nothing, and k1 is within k0
+abbrev only_within : List ℕ
+only_within =
+    0x10 ∷ 0x00 ∷ 0x10 ∷ 0x01 ∷ 0x02 ∷ 0x08 ∷ 0x00 ∷ 0x02 ∷ 0x01 ∷ 0x20 ∷ 0x04 ∷ 0x03 ∷ 0x21 ∷ 0x00 ∷ 0x01 ∷ []
+
+abbrev some_within : List ℕ
+some_within =
+    0x01 ∷ 0x10 ∷ 0x00 ∷ 0x10 ∷ 0x01 ∷ 0x07 ∷ 0x01 ∷ 0x00 ∷ 0x20 ∷ 0x00 ∷ 0x03 ∷ 0x21 ∷ 0x02 ∷ 0x01 ∷ []
+
+abbrev any_within : List ℕ
+any_within =
+    0x01 ∷ 0x02 ∷ 0x10 ∷ 0x00 ∷ 0x10 ∷ 0x01 ∷ 0x08 ∷ 0x02 ∷ 0x01 ∷ 0x06 ∷ 0x00 ∷ 0x04 ∷ 0x20 ∷ 0x00 ∷ 0x05 ∷ 0x21 ∷ 0x03 ∷ 0x02 ∷ []
+
 -- "Strikes on S1 opened: 32 Struck; 2 Absent; 34 Kept; 64 refused 11."; one strike by each of the conditions 1 to 5: those of
 -- opening on full words, the others on words that the table above has as opened; and 02, N2, "the first condition that fails in 01's
--- order": dominoes that fail 1 and 2, 2 and 3, 3 and 4, 4 and 5 (the one by 5 before them fails 6 too)
+-- order": dominoes that fail 1 and 2, 2 and 3, 3 and 4, 4 and 5 (the one by 5 before them fails 6 too); and N8, "checked after 3 and
+-- before 4": 7 alone, 3 and 7, 7 and 4 and 6, 7 and 5 and 6
 abbrev pub strikes : List Strike
 strikes =
     strike s1 (lend opened1) 32 (0 ∷ 0 ∷ 32 ∷ 1 ∷ 6 ∷ []) (lend (0xfffffffe00000000 ∷ [])) ∷
@@ -154,11 +178,16 @@ strikes =
     (lend (0x5555555555555555 ∷ 0x5555555555555555 ∷ 0x5555555555555555 ∷ 0x5555555555545555 ∷ [])) ∷
     strike some_and_only halves 64 (0 ∷ 0 ∷ 64 ∷ 1 ∷ 4 ∷ [])
     (lend (0x5555555555555555 ∷ 0x5555555555555554 ∷ 0x5555555555555555 ∷ 0x5555555555555555 ∷ [])) ∷
+    strike with_inclusion four 196 (0 ∷ 0 ∷ 196 ∷ 1 ∷ 7 ∷ [])
+    (lend (0xffffffffffffffff ∷ 0xffffffffffffffff ∷ 0xffffffffffffffff ∷ 0xffffffffffffffef ∷ [])) ∷
+    strike only_within one 34 (0 ∷ 0 ∷ 34 ∷ 1 ∷ 3 ∷ []) (lend (0xfffffffbffffffff ∷ [])) ∷
+    strike some_within (lend (0x10000000000 ∷ [])) 40 (0 ∷ 0 ∷ 40 ∷ 1 ∷ 7 ∷ []) (lend (0 ∷ [])) ∷
+    strike any_within (lend (0x100 ∷ [])) 8 (0 ∷ 0 ∷ 8 ∷ 1 ∷ 7 ∷ []) (lend (0 ∷ [])) ∷
     []
 
 -- S4 as it is read: every only k0 everything is nothing
 abbrev pub kb4 : Kb
-kb4 = record { names = 0; roles = 1; axioms = record { left = forall_c 2 1 (named 0) top_c; right = bottom_c } ∷ [] }
+kb4 = record { names = 0; roles = 1; axioms = record { left = forall_c 2 1 (named 0) top_c; right = bottom_c } ∷ []; inclusions = [] }
 
 -- a pass for S4, whose dominoes are 0 to 15: the last to the first, with a settling, a repeated strike and a refused one among them
 abbrev pass4 : List Call

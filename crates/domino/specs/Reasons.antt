@@ -24,13 +24,13 @@ kept n = 0 ∷ 0 ∷ n ∷ 2 ∷ []
 -- of a number n below 2^(2c+2L)
 pub record Tells (s : Reading) (v : View) (ws : List ℕ) (n : ℕ) : Type 0 where
   pub absent_if : look ws n ≡ false → strike_says s n ws ≡ absent n
-  -- "the number, 1 to 6, of the first condition that fails in 01's order, and Struck carries it"
+  -- "the number, 1 to 6, of the first condition that fails in 01's order, and Struck carries it"; N8: "N2's numbers gain 7"
   pub struck_if : (k : ℕ) → look ws n ≡ true → FirstFails (condition_at v (look ws) n) order k → strike_says s n ws ≡ struck k n
   pub kept_if : look ws n ≡ true → All (λ (k : ℕ). condition_at v (look ws) n k ≡ true) order → strike_says s n ws ≡ kept n
   -- and in no other case
   pub absent_means : strike_says s n ws ≡ absent n → look ws n ≡ false
   pub struck_means : (k : ℕ) → strike_says s n ws ≡ struck k n
-      → (look ws n ≡ true) × FirstFails (condition_at v (look ws) n) order k × (1 ≤ k) × (k ≤ 6)
+      → (look ws n ≡ true) × FirstFails (condition_at v (look ws) n) order k × (1 ≤ k) × (k ≤ 7)
   pub kept_means : strike_says s n ws ≡ kept n → (look ws n ≡ true) × All (λ (k : ℕ). condition_at v (look ws) n k ≡ true) order
 
 -- is the number of the first failing condition other than 0
@@ -52,5 +52,5 @@ pub record Resting (s : Reading) (v : View) (ws : List ℕ) : Type 0 where
   -- "A set is at rest if no pairing in it is loose in it": exactly if no strike says Struck
   pub no_strike : StableWords v ws → (n k : ℕ) → strike_says s n ws ≡ struck k n → ⊥
   pub at_rest : ((n k : ℕ) → n < dominoes v → strike_says s n ws ≡ struck k n → ⊥) → StableWords v ws
-  -- "The opening set is all pairings that meet 1 to 3.": a strike in a list of calls from there on is by a later condition
-  pub later : (cs : List Call) (n k : ℕ) → strike_says s n (calls_leave s cs ws) ≡ struck k n → 4 ≤ k
+  -- "The opening set is all pairings that meet 1 to 3.", and 7: a strike in a list of calls from there on is by 4, 5 or 6
+  pub later : (cs : List Call) (n k : ℕ) → strike_says s n (calls_leave s cs ws) ≡ struck k n → (4 ≤ k) × (k ≤ 6)

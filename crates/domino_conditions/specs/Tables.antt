@@ -11,7 +11,7 @@ use Rattle.tbox.specs.declared.base.Part.{Part}
 use Rattle.tbox.specs.declared.base.Base.{Base}
 use Rattle.tbox.specs.Promise.{kind_number, part_in}
 use Rattle.domino_conditions.specs.declared.conditions.Condition.{Condition}
-use Rattle.domino_conditions.specs.declared.conditions.Condition.TheVariants.{Kb, Ex, Uni, DelEx, DelUni, Sym}
+use Rattle.domino_conditions.specs.declared.conditions.Condition.TheVariants.{Kb, Ex, Uni, DelEx, DelUni, Sym, Rbox}
 
 -- document 01's number of a condition, and of the first that fails: 0 for none
 abbrev pub condition_number : Condition → ℕ
@@ -21,6 +21,7 @@ condition_number Uni = 3
 condition_number DelEx = 4
 condition_number DelUni = 5
 condition_number Sym = 6
+condition_number Rbox = 7
 
 abbrev pub defect_number : Option Condition → ℕ
 defect_number None = 0
@@ -50,6 +51,7 @@ view b = record {
   holds = λ k R. role_holds_on_lem (part_in b k) R;
   has = λ k B. kind_has (part_in b k).kind B;
   good = look b.good;
+  closed = look b.closed;
 }
 
 -- a set of so many words has room for all dominoes

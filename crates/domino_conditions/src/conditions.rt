@@ -1,4 +1,4 @@
-// The tests of the six conditions: of a left label alone (1, 4, 5), and of a domino (2, 3, 6).
+// The tests of the conditions: of a left label alone (1, 4, 5), of a role set alone (7), and of a domino (2, 3, 6).
 ghost use Rattle.std.specs.Prelude.{◌≡◌, ◌*◌, ◌<◌, length};
 ghost use Rattle.bitset.specs.Bits.{bit, look};
 ghost use Rattle.domino_conditions.specs.Tables.{view, filler_in_label_lem, condition_number, Room};
@@ -8,7 +8,7 @@ use crate::numbers::{index, inverse, labels, left_of, right_of, role_sets, roles
 use flattening::parts::Quantifier;
 use tbox::base::{Base, Filler, Kind, Part};
 
-// The six conditions by document 01's numbers.
+// The conditions by document 01's numbers, and 02's 7.
 #[derive(Clone, Copy, PartialEq, Eq)]
 pub enum Condition {
     Kb = 1,
@@ -17,6 +17,7 @@ pub enum Condition {
     DelEx = 4,
     DelUni = 5,
     Sym = 6,
+    Rbox = 7,
 }
 
 impl Condition {
@@ -62,6 +63,14 @@ pub fn is_good(base: &Base, a: usize) -> bool
     ensures { result ≡ look base.now.good a }
 {
     bitset::member(&base.good, a)
+}
+
+// Condition 7 of the role set r.
+pub fn is_closed(base: &Base, r: usize) -> bool
+    requires { r < 256 }
+    ensures { result ≡ look base.now.closed r }
+{
+    bitset::member(&base.closed, r)
 }
 
 // The filler of a restriction with this quantifier.
@@ -205,6 +214,9 @@ impl DominoSet<'_> {
         }
         if !right_fits(self.base, Quantifier::Forall, a, r, b) {
             return Some(Condition::Uni);
+        }
+        if !is_closed(self.base, r) {
+            return Some(Condition::Rbox);
         }
         let row = self.row_defect(a);
         let converse = index(self.base.size, b, inverse(self.base.size.roles, r), a);

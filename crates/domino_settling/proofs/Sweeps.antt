@@ -23,7 +23,7 @@ use Rattle.domino_settling.specs.Sweeps.{unmatched, Passed, Swept, Stays, SweptF
 use Rattle.domino_settling.specs.declared.settling.Sweep.{Sweep}
 use Rattle.domino_conditions.specs.Tables.{condition_number, view}
 use Rattle.domino_conditions.specs.declared.conditions.Condition.{Condition}
-use Rattle.domino_conditions.specs.declared.conditions.Condition.TheVariants.{Kb, Ex, Uni, DelEx, DelUni, Sym}
+use Rattle.domino_conditions.specs.declared.conditions.Condition.TheVariants.{Kb, Ex, Uni, DelEx, DelUni, Sym, Rbox}
 use Rattle.domino_conditions.proofs.Rows.{size_as, number-zero, row_le, left_in_row, row_end}
 use Rattle.domino_conditions.proofs.Polarity.{witnessed-delex, witnessed-deluni}
 use Rattle.domino_settling.proofs.Passed.{pass-none, pass_idle, pass_empty, pass_on, pass-at}
@@ -75,6 +75,7 @@ fails-number Uni n e f = omega arith
 fails-number DelEx n e f = omega arith
 fails-number DelUni n e f = omega arith
 fails-number Sym n e f = omega arith
+fails-number Rbox n e f = omega arith
 
 -- ---- a row
 
@@ -184,7 +185,7 @@ module _ (s t u : Sweep) (x y : Bool) where
         (number b.now.size.parts b.now.size.roles (a + 1) 0 0) t.set.now u.set.now y) j.stays.base k.passed);
   }
 
--- what is left still meets the conditions 1 to 3
+-- what is left still meets the conditions of the initial set
 pub still_opened : (v : View) (test : Set → ℕ → Bool) (a e : ℕ) (ws vs : List ℕ) (m : Bool) → Passed v test a e ws vs m
     → Sub (dominoes v) (look ws) (initial v) → Sub (dominoes v) (look vs) (initial v)
 still_opened v test a e ws vs m k s n h t = s n h (k.within.inside n h t)

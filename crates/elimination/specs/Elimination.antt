@@ -55,7 +55,7 @@ module _ (N : ℕ) (defective : Set → ℕ → Bool) where
   removals (n ∷ ns) D = (ltb n N && defective D n) && removals ns (without D n)
 
 -- a number is defective if it is not in the initial set, whatever the set, or if it lacks something in the set. Document 01:
--- "The opening set is all pairings that meet 1 to 3."; `lacks` is the failure of one of the conditions 4 to 6
+-- "The opening set is all pairings that meet 1 to 3.", and 02's 7; `lacks` is the failure of one of the conditions 4 to 6
 abbrev pub defective_by : Set → (Set → ℕ → Bool) → Set → ℕ → Bool
 defective_by initial lacks D p = not (initial p) || lacks D p
 

@@ -6,7 +6,7 @@ use Rattle.records.specs.Entries.{Entry}
 use Rattle.records.specs.Scan.{record_at_lem}
 use Rattle.records.specs.Nodes.{Says, node_kind, node_first, node_second}
 use Rattle.records.specs.declared.nodes.Node.{Node}
-use Rattle.records.specs.declared.nodes.Node.TheVariants.{Everything, Nothing, Name, Not, And, Or, Exists, Forall, Role, Inverse, RoleNot, RoleAnd, RoleOr, Axiom}
+use Rattle.records.specs.declared.nodes.Node.TheVariants.{Everything, Nothing, Name, Not, And, Or, Exists, Forall, Role, Inverse, RoleNot, RoleAnd, RoleOr, Axiom, RoleInclusion}
 use Rattle.syntax.specs.Concepts.{Node as Formed, no_node, nodes_of, as_concept, as_role, node_of, bottom_c, concept_below, role_below}
 use Rattle.syntax.specs.Normal.{Nf, top_n, bottom_n, plain, negated}
 use Rattle.syntax.specs.Flatten.{everything, nothing, Part, atom, walk, walk_by}
@@ -105,6 +105,7 @@ module _ (es : List Entry) (r : ℕ) (n : Node) (not : (a : ℕ) → n ≡ Not a
       at (RoleAnd a b) q = refl
       at (RoleOr a b) q = refl
       at (Axiom a b) q = refl
+      at (RoleInclusion a b) q = refl
 
   -- it adds no part
   no_parts : (odd : Bool) (so : List Part) → (walk (nf_formed odd (formed es r (Some n))) so).parts ≡ []
@@ -134,7 +135,9 @@ module _ (es : List Entry) (r : ℕ) (n : Node) (not : (a : ℕ) → n ≡ Not a
       at (RoleOr a b) q true = refl
       at (RoleOr a b) q false = refl
       at (Axiom a b) q true = refl
+      at (RoleInclusion a b) q true = refl
       at (Axiom a b) q false = refl
+      at (RoleInclusion a b) q false = refl
 
   -- read with those below a number
   module _ (below : ℕ) (h : NodeBelow es below r (Some n)) where

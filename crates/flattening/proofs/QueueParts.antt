@@ -15,7 +15,7 @@ use Rattle.records.specs.Entries.{Entry}
 use Rattle.records.specs.Scan.{record_at_lem, blank}
 use Rattle.records.specs.Nodes.{NodeAt, node_kind}
 use Rattle.records.specs.declared.nodes.Node.{Node}
-use Rattle.records.specs.declared.nodes.Node.TheVariants.{Everything, Nothing, Name as NameNode, Not, And, Or, Exists, Forall, Role, Inverse, RoleNot, RoleAnd, RoleOr, Axiom}
+use Rattle.records.specs.declared.nodes.Node.TheVariants.{Everything, Nothing, Name as NameNode, Not, And, Or, Exists, Forall, Role, Inverse, RoleNot, RoleAnd, RoleOr, Axiom, RoleInclusion}
 use Rattle.syntax.specs.Concepts.{Node as Formed, nodes_of, axioms_of, concept_below}
 use Rattle.syntax.specs.Normal.{Nf, or_n, plain, negated, axiom_nf}
 use Rattle.syntax.specs.Flatten.{Part, Flat, Pending, whole, guarded, walk_by, walk_pending_by, shared, name_parts_lem, pendings, flatten, part_at}
@@ -74,6 +74,7 @@ of_kind (RoleNot a) f k = omega arith
 of_kind (RoleAnd a b) f k = omega arith
 of_kind (RoleOr a b) f k = omega arith
 of_kind (Axiom a b) f k = f a b refl
+of_kind (RoleInclusion a b) f k = omega arith
 
 module _ (es : List Entry) (i : ℕ) (os : List Origin) where
   abbrev axiom_of_lem : List Part → List Part

@@ -5,7 +5,7 @@ use mathlib.Core.Bool.{false≢true, and-eq-true_iff}
 use borrow.Author.Tests.{eqb-true, eq-eqb}
 use Rattle.records.specs.Entries.{Entry}
 use Rattle.records.specs.declared.nodes.Node.{Node}
-use Rattle.records.specs.declared.nodes.Node.TheVariants.{Everything, Nothing, Name, Not, And, Or, Exists, Forall, Role, Inverse, RoleNot, RoleAnd, RoleOr, Axiom}
+use Rattle.records.specs.declared.nodes.Node.TheVariants.{Everything, Nothing, Name, Not, And, Or, Exists, Forall, Role, Inverse, RoleNot, RoleAnd, RoleOr, Axiom, RoleInclusion}
 use Rattle.syntax.specs.Concepts.{Role as RoleTree, named, inverse, not_r, and_r, or_r, node_of, role_below}
 use Rattle.syntax.specs.Flatten.{same_role_lem}
 use Rattle.flattening.specs.Trees.{NodeOf, role_at}
@@ -50,6 +50,7 @@ module _ (t : Tree) (n : Node) (h : NodeOf t (Some n)) where
       at (Exists a b) q = role_node t.table.now t.below t.number n (Exists a b) h q
       at (Forall a b) q = role_node t.table.now t.below t.number n (Forall a b) h q
       at (Axiom a b) q = role_node t.table.now t.below t.number n (Axiom a b) h q
+      at (RoleInclusion a b) q = role_node t.table.now t.below t.number n (RoleInclusion a b) h q
 
 -- the node of a role
 abbrev pub NodeRole : Node → RoleTree → Type 0
@@ -74,6 +75,7 @@ outer_is t (Or a b) u o q = absurd o
 outer_is t (Exists a b) u o q = absurd o
 outer_is t (Forall a b) u o q = absurd o
 outer_is t (Axiom a b) u o q = absurd o
+outer_is t (RoleInclusion a b) u o q = absurd o
 
 -- ---- trees alike
 

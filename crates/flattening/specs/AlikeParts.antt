@@ -3,7 +3,7 @@ use Rattle.std.specs.Prelude.{ℕ, ◌≡◌, ◌<◌, Bool, List, Option, Some,
 use Rattle.std.proofs.Math.Option.{Option as Maybe, none, some}
 use Rattle.records.specs.Entries.{Entry}
 use Rattle.records.specs.declared.nodes.Node.{Node}
-use Rattle.records.specs.declared.nodes.Node.TheVariants.{Everything, Nothing, Name, Not, And, Or, Exists, Forall, Role, Inverse, RoleNot, RoleAnd, RoleOr, Axiom}
+use Rattle.records.specs.declared.nodes.Node.TheVariants.{Everything, Nothing, Name, Not, And, Or, Exists, Forall, Role, Inverse, RoleNot, RoleAnd, RoleOr, Axiom, RoleInclusion}
 use Rattle.syntax.specs.Concepts.{Role as RoleTree, named, inverse, not_r, and_r, or_r, role_below}
 use Rattle.syntax.specs.Normal.{Tag}
 use Rattle.syntax.specs.Flatten.{atomic, alike, shared}
@@ -35,6 +35,7 @@ Outer t (Or a b) = ⊥
 Outer t (Exists a b) = ⊥
 Outer t (Forall a b) = ⊥
 Outer t (Axiom a b) = ⊥
+Outer t (RoleInclusion a b) = ⊥
 
 -- two trees are one record, if they are of one table
 abbrev pub OneRecord : Tree → Tree → Type 0

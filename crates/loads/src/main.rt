@@ -8,7 +8,7 @@ use flattening::parts::Quantifier;
 use std::io::{Print, Stdout};
 use tbox::base::{Base, Filler, Kind, Part};
 
-const SHEETS: [&[u8]; 13] = [
+const SHEETS: [&[u8]; 17] = [
     b"",
     b"\x01\x10\x00\x03\x00\x07\x01\x02\x20\x00\x03",
     b"\x01\x10\x00\x03\x00\x07\x01\x02\x20\x00\x03\x02\x20\x02\x05",
@@ -22,6 +22,10 @@ const SHEETS: [&[u8]; 13] = [
     b"\x10\x00\x10\x01\x12\x01\x13\x00\x02\x12\x01\x13\x00\x04\x12\x01\x13\x06\x00\x03\x00\x07\x03\x08\x04\x08\x04\x0a\x07\x05\x0b\x07\x07\x08\x01\x20\x0e\x09\x20\x0e\x0c\x20\x0e\x0d",
     b"\x03\x0b\x10\x00",
     b"\x03\x00\x04\x00\x05\x01\x01",
+    b"\x01\x10\x00\x10\x01\x02\x07\x01\x00\x20\x00\x04\x08\x02\x03\x20\x00\x06\x21\x01\x02",
+    b"\x10\x00\x11\x00\x10\x01\x11\x02\x21\x00\x02\x21\x02\x03\x21\x01\x00\x01\x03\x00\x07\x03\x08\x20\x07\x09",
+    b"\x10\x00\x11\x01\x12\x01\x13\x00\x02\x11\x03\x12\x04\x14\x05\x01\x21\x03\x06\x10\x01\x21\x01\x04\x03\x01\x08\x08\x0a\x20\x0a\x0b",
+    b"\x10\x00\x12\x00\x21\x01\x00",
 ];
 
 // Words, which end a line. A failed write is ignored, here and below: what is missing shows when the output is compared.
@@ -69,13 +73,16 @@ fn write_parts(stdout: &Stdout, parts: &[Part]) {
     }
 }
 
-// The counts of names, roles and parts, the parts, and the labels on which every flattened axiom holds.
+// The counts of names, roles and parts, the parts, the labels on which every flattened axiom holds, and the role sets on which every
+// role inclusion holds.
 fn write_base(stdout: &Stdout, base: &Base) {
     let (names, roles, parts) = (base.names, base.size.roles, base.size.parts);
     let _ = println!(stdout; "kb {names} {roles} {parts}");
     write_parts(stdout, &base.parts);
     let _ = print!(stdout; "labels");
     write_words(stdout, &base.good[..bitset::words_for(parts)]);
+    let _ = print!(stdout; "role sets");
+    write_words(stdout, &base.closed);
 }
 
 fn report(stdout: &Stdout, sheet: &[u8]) {

@@ -7,7 +7,7 @@ use mathlib.Core.Option.{Option, none, some}
 use mathlib.Core.List.{List, [], ◌∷◌, ◌++◌, map, map-append}
 use lib.ListN.{length, length-map, get_or-map}
 use lib.Dec.{ltb, eqb}
-use Rattle.syntax.specs.Concepts.{Concept, top_c, bottom_c, name_c, not_c, and_c, or_c, exists_c, forall_c, Axiom}
+use Rattle.syntax.specs.Concepts.{Concept, top_c, bottom_c, name_c, not_c, and_c, or_c, exists_c, forall_c, Axiom, RoleInclusion}
 use Rattle.syntax.specs.Normal.{Tag, tag, Nf, top_n, bottom_n, name_n, not_n, and_n, or_n, exists_n, forall_n, plain, negated, axiom_nf}
 use Rattle.syntax.specs.Flatten.{Atom, Filler, atomic, fresh, Part, name_p, fresh_p, exists_p, forall_p, Flat, atom, Pending, whole, guarded, Walked, like_exists, like_forall, alike, find_from, shared, placed, meet_one, walk_by, walk_pending_by, Flattening, run_by, restrictions, weight, weights, name_parts_lem, pendings, flatten_by, flatten, no_part, part_at}
 use Rattle.syntax.specs.Reading.{Kb, kb, flats_of, parts_of}
@@ -229,8 +229,9 @@ part-erased : (ps : List Part) (k : ℕ) → part_at (erase_parts ps) k ≡ eras
 unfolding erase_part erase_nf
 part-erased ps k = get_or-map erase_part ps k no_part
 
-view-erased : (L : ℕ) (fs : List Flat) (ps : List Part) → view_of L fs (erase_parts ps) ≡ view_of L fs ps
-view-erased L fs ps = simp (length-map ps erase_part, part-erased ps, kind-erased, holds-erased, has-erased)
+view-erased : (L : ℕ) (incl : List RoleInclusion) (fs : List Flat) (ps : List Part) →
+    view_of L incl fs (erase_parts ps) ≡ view_of L incl fs ps
+view-erased L incl fs ps = simp (length-map ps erase_part, part-erased ps, kind-erased, holds-erased, has-erased)
 
 pub flats-bare : (k : Kb) → flats_of (bare_kb k) ≡ flats_of k
 flats-bare k = ap (λ (F : Flattening). F.axioms) (flatten-bare k.names k.axioms)
@@ -240,7 +241,8 @@ parts-bare k = ap (λ (F : Flattening). length (F.parts)) (flatten-bare k.names 
 
 pub view-bare : (k : Kb) → kb_view (bare_kb k) ≡ kb_view k
 view-bare k =
-    ap (λ (F : Flattening). view_of k.roles (F.axioms) (F.parts)) (flatten-bare k.names k.axioms) ∙ view-erased k.roles (flats_of k) (parts_of k)
+    ap (λ (F : Flattening). view_of k.roles k.inclusions (F.axioms) (F.parts)) (flatten-bare k.names k.axioms) ∙
+    view-erased k.roles k.inclusions (flats_of k) (parts_of k)
 
 -- knowledge bases written alike have one view
 pub alike-view : (k m : Kb) → WrittenAlike k m → kb_view k ≡ kb_view m

@@ -3,11 +3,11 @@ use Prim.Native.Nat.{ℕ, suc, ◌+◌}
 use mathlib.Core.Path.{◌≡◌, refl, sym, ap, ◌∙◌}
 use mathlib.Core.Bool.{false}
 use mathlib.Core.Option.{none}
-use mathlib.Core.List.{List, [], ◌∷◌, ◌++◌}
+use mathlib.Core.List.{List, [], ◌∷◌, ◌++◌, cons≢nil}
 use lib.ListN.{length}
 use Rattle.records.specs.Entries.{Entry}
 use Rattle.records.specs.Scan.{State, whole, scan_sheet}
-use Rattle.syntax.specs.Concepts.{Role, named, inverse, not_r, and_r, or_r, Concept, top_c, bottom_c, name_c, not_c, and_c, or_c, exists_c, forall_c, Axiom, Node, concept_n, role_n, axiom_n, nodes_of, axiom_of, axioms_of}
+use Rattle.syntax.specs.Concepts.{Role, named, inverse, not_r, and_r, or_r, Concept, top_c, bottom_c, name_c, not_c, and_c, or_c, exists_c, forall_c, Axiom, RoleInclusion, Node, concept_n, role_n, axiom_n, inclusion_n, nodes_of, axiom_of, axioms_of, inclusion_of, inclusions_of}
 use Rattle.syntax.specs.Bounds.{All, EachRole, AxiomRoles}
 use Rattle.syntax.specs.Reading.{Kb, kb, kb_of, read_kb}
 use Rattle.syntax.specs.Answers.{limit}
@@ -21,7 +21,7 @@ use Rattle.owl_import.specs.Import.{imported}
 use Rattle.owl_export.specs.Export.{calls_for20, first_beyond, export_at, export_of, exporting, exported}
 use Rattle.owl.proofs.Fetching.{Fetched, axioms_fetched}
 use Rattle.owl_import.proofs.Parsing.{Small, AxiomsTook, parse_gives}
-use Rattle.owl.proofs.RoundTrip.{import_reads, export_writes, fetched_text}
+use Rattle.owl.proofs.RoundTrip.{Writable, import_reads, export_writes, fetched_text}
 
 -- the text has no record numbers
 text-bare : (c : Concept) → concept_text (bare c) ≡ concept_text c
@@ -65,18 +65,20 @@ unfolding beyond
 axioms-plain [] h = tt
 axioms-plain (a ∷ l) h = (rw (concept-plain a.left h.0, concept-plain a.right h.1), axioms-plain l h.2)
 
-node_plain : (n : Node) (l : List Axiom) → All (λ a. beyond a ≡ false) (axiom_of n ++ l) → (calls_for20 n ≡ false) × All (λ a. beyond a ≡ false) l
-unfolding calls_for20 axiom_of
-node_plain (concept_n c) l h = (refl, h)
-node_plain (role_n u) l h = (refl, h)
-node_plain (axiom_n a) l h = h
+node_plain : (n : Node) (l : List Axiom) (incl : List RoleInclusion) → Writable (axiom_of n ++ l) (inclusion_of n ++ incl) →
+    (calls_for20 n ≡ false) × Writable l incl
+unfolding calls_for20 axiom_of inclusion_of
+node_plain (concept_n c) l incl h = (refl, h)
+node_plain (role_n u) l incl h = (refl, h)
+node_plain (axiom_n a) l incl h = (h.0.0, (h.0.1, h.1))
+node_plain (inclusion_n i) l incl h = absurd (cons≢nil h.1)
 
-plain-none : (at : ℕ) (es : List Entry) (ns : List Node) → All (λ a. beyond a ≡ false) (axioms_of ns) → first_beyond at es ns ≡ none
-unfolding first_beyond axioms_of
+plain-none : (at : ℕ) (es : List Entry) (ns : List Node) → Writable (axioms_of ns) (inclusions_of ns) → first_beyond at es ns ≡ none
+unfolding first_beyond axioms_of inclusions_of
 plain-none at [] ns h = refl
 plain-none at (e ∷ es) [] h = refl
 plain-none at (e ∷ es) (n ∷ ns) h =
-    let w = node_plain n (axioms_of ns) h in
+    let w = node_plain n (axioms_of ns) (inclusions_of ns) h in
     rw w.0 (plain-none (at + length (rec_bytes (rec_of e))) es ns w.1)
 
 -- what was read of the text, as export writes it
@@ -84,10 +86,11 @@ took : (text : List ℕ) (l : List Axiom) (room : ℕ) (rest : List ℕ) → par
 took text l room rest e = rw e at (parse_gives text)
 
 export_state : (sheet : List ℕ) (k : Kb) (st : State) (l : List Axiom) → read_kb limit sheet ≡ kb k → scan_sheet sheet ≡ whole st → k ≡ kb_of st →
-    AxiomRoles Small l → bare_axioms (axioms_of (nodes_of st.records)) ≡ l → exported sheet ≡ write (axioms_text l)
+    AxiomRoles Small l → bare_axioms (axioms_of (nodes_of st.records)) ≡ l → inclusions_of (nodes_of st.records) ≡ [] →
+    exported sheet ≡ write (axioms_text l)
 unfolding exported exporting export_of export_at
-export_state sheet k st l r s e h b =
-    rw (r, s, plain-none 0 st.records (nodes_of st.records) (axioms-plain (axioms_of (nodes_of st.records)) (rw b h)))
+export_state sheet k st l r s e h b i =
+    rw (r, s, plain-none 0 st.records (nodes_of st.records) (axioms-plain (axioms_of (nodes_of st.records)) (rw b h), i))
     (ap write (ap (λ (k : Kb). axioms_text k.axioms) e ∙ sym (axioms-text-bare (axioms_of (nodes_of st.records))) ∙ ap axioms_text b))
 
 pub whole-one : (s t : State) → whole s ≡ whole t → s ≡ t
@@ -109,7 +112,7 @@ import_export text sheet k e r =
       w.1,
       w.2,
       w.3,
-      export_state sheet k w.4.state w.0 r w.4.read (v.2 ∙ ap kb_of same) (took text w.0 w.1 w.2 w.3).roles w.4.alike,
+      export_state sheet k w.4.state w.0 r w.4.read (v.2 ∙ ap kb_of same) (took text w.0 w.1 w.2 w.3).roles w.4.alike w.4.inclusions,
     )
 
 pub export_import_export : (sheet text new : List ℕ) (m : Kb) → exported sheet ≡ write text → imported text ≡ write new → read_kb limit new ≡ kb m → exported new ≡ write text

@@ -1,7 +1,8 @@
--- Every sheet that import writes is read without a fault but 9; importing what was exported gives the same axioms written alike.
+-- Every sheet that import writes is read without a fault but 9; importing what was exported gives the same axioms written alike, and of
+-- role inclusions none, as there were none.
 use Prim.Native.Nat.{ℕ, suc, ◌+◌, ◌≤◌, ◌<◌}
 use mathlib.Core.Path.{◌≡◌, refl, sym, ap, ◌∙◌}
-use mathlib.Core.Bool.{Bool, true, false, cond, ◌||◌}
+use mathlib.Core.Bool.{Bool, true, false, cond, ◌||◌, false≢true}
 use mathlib.Core.Option.{Option, none, some}
 use mathlib.Core.List.{List, [], ◌∷◌, ◌++◌}
 use lib.ListN.{length, drop}
@@ -10,7 +11,7 @@ use native.Mathlib.Omega.{arith}
 use borrow.Author.Tests.{ltb-true, ltb-false, le-leb}
 use Rattle.records.specs.Entries.{Entry}
 use Rattle.records.specs.Scan.{State, start, whole, scan_sheet}
-use Rattle.syntax.specs.Concepts.{Role, named, inverse, not_r, and_r, or_r, Concept, top_c, bottom_c, name_c, not_c, and_c, or_c, exists_c, forall_c, Axiom, Node, concept_n, role_n, axiom_n, nodes_of, axiom_of, axioms_of}
+use Rattle.syntax.specs.Concepts.{Role, named, inverse, not_r, and_r, or_r, Concept, top_c, bottom_c, name_c, not_c, and_c, or_c, exists_c, forall_c, Axiom, RoleInclusion, Node, concept_n, role_n, axiom_n, inclusion_n, nodes_of, axiom_of, axioms_of, inclusion_of, inclusions_of}
 use Rattle.syntax.specs.Bounds.{All, RolesBelow, NamesBelow, EachRole, AxiomNames, AxiomRoles}
 use Rattle.syntax.specs.Reading.{Kb, Reading, refusal, kb, kb_of, parts_of, read_kb, reading, admit}
 use Rattle.syntax.specs.Answers.{limit}
@@ -20,7 +21,7 @@ use Rattle.owl_import.specs.Grammar.{Parsed, refused, done, axioms, parse, most}
 use Rattle.syntax.specs.Laid.{rec_of, rec_bytes, reach}
 use Rattle.owl_import.specs.RecordsOf.{put_axioms}
 use Rattle.owl_export.specs.AxiomText.{axioms_text, composed, has_composed, beyond}
-use Rattle.syntax.specs.WrittenAlike.{bare_axioms, WrittenAlike, axioms_names, axioms_roles, Occurring}
+use Rattle.syntax.specs.WrittenAlike.{bare_axioms, WrittenAlike, axioms_names, axioms_roles, inclusions_roles, Occurring}
 use Rattle.output.specs.Output.{Output, refuse, write, output_says, output_leaves}
 use Rattle.owl_import.specs.Import.{sheet_of, importing, imported}
 use Rattle.owl_export.specs.Export.{calls_for20, first_beyond, export_at, export_of, exporting, exported}
@@ -29,13 +30,14 @@ use Rattle.owl_import.proofs.Parsing.{Small, Gives, AxiomsTook, parse_gives, axi
 use Rattle.syntax.proofs.Laying.{laid-reads, reads-back}
 use Rattle.owl_import.proofs.Counting.{axioms-counted, counted-bare}
 use Rattle.owl.proofs.Erasing.{alike-parts, alike-answers, SameAnswers}
-use Rattle.owl_import.proofs.Putting.{trees_from, nodes_trees, axioms-stand, axioms_well}
+use Rattle.owl_import.proofs.Putting.{trees_from, nodes_trees, axioms-stand, no-inclusions, axioms_well}
 
--- a sheet that is read, and its axioms, without record numbers, are l
+-- a sheet that is read: its axioms, without record numbers, are l, and it has no role inclusion
 pub record ReadAs (l : List Axiom) (sheet : List ℕ) : Type 0 where
   pub state : State
   pub read : scan_sheet sheet ≡ whole state
   pub alike : bare_axioms (axioms_of (nodes_of state.records)) ≡ l
+  pub inclusions : inclusions_of (nodes_of state.records) ≡ []
   pub names : state.names ≡ axioms_names l
   pub roles : state.roles ≡ axioms_roles l
 
@@ -47,6 +49,7 @@ sheet-read l n r p k =
       state = reach start (put_axioms [] l);
       read = laid-reads (put_axioms [] l) (axioms_well l n r k);
       alike = rw (nodes_trees (reach start (put_axioms [] l)).records, reads-back (put_axioms [] l)) (axioms-stand l r [] ∙ p);
+      inclusions = no-inclusions l;
       names = (axioms-counted l r).0;
       roles = (axioms-counted l r).1;
     }
@@ -121,30 +124,40 @@ axioms_more : (s : List Axiom) (T : ℕ) → T ≤ 12 → AxiomNames T s → Axi
 axioms_more [] T l h = tt
 axioms_more (a ∷ s) T l h = (names_more a.left T l h.0, names_more a.right T l h.1, axioms_more s T l h.2)
 
-with_node : (n : Node) (s : List Axiom) → calls_for20 n ≡ false → All (λ a. beyond a ≡ false) s → All (λ a. beyond a ≡ false) (axiom_of n ++ s)
-unfolding calls_for20 axiom_of
-with_node (concept_n c) s q w = w
-with_node (role_n u) s q w = w
-with_node (axiom_n a) s q w = (q, w)
+-- axioms and role inclusions of which none calls for 20: of the latter there are none
+abbrev pub Writable : List Axiom → List RoleInclusion → Type 0
+Writable l incl = All (λ a. beyond a ≡ false) l × (incl ≡ [])
 
-none-beyond : (at : ℕ) (es : List Entry) (ns : List Node) → length es ≡ length ns → first_beyond at es ns ≡ none → All (λ a. beyond a ≡ false) (axioms_of ns)
-unfolding first_beyond axioms_of
-none-beyond at [] [] l h = tt
+with_node : (n : Node) (l : List Axiom) (incl : List RoleInclusion) → calls_for20 n ≡ false → Writable l incl →
+    Writable (axiom_of n ++ l) (inclusion_of n ++ incl)
+unfolding calls_for20 axiom_of inclusion_of
+with_node (concept_n c) l incl q w = w
+with_node (role_n u) l incl q w = w
+with_node (axiom_n a) l incl q w = ((q, w.0), w.1)
+with_node (inclusion_n i) l incl q w = absurd (false≢true (sym q))
+
+none-beyond : (at : ℕ) (es : List Entry) (ns : List Node) → length es ≡ length ns → first_beyond at es ns ≡ none →
+    Writable (axioms_of ns) (inclusions_of ns)
+unfolding first_beyond axioms_of inclusions_of
+none-beyond at [] [] l h = (tt, refl)
 none-beyond at [] (n ∷ ns) l h = absurd (omega arith)
-none-beyond at (e ∷ es) [] l h = tt
+none-beyond at (e ∷ es) [] l h = (tt, refl)
 none-beyond at (e ∷ es) (n ∷ ns) l h = go (calls_for20 n) refl (none-beyond (at + length (rec_bytes (rec_of e))) es ns (omega arith)) h
   where
-    go : (b : Bool) → calls_for20 n ≡ b → (first_beyond (at + length (rec_bytes (rec_of e))) es ns ≡ none → All (λ a. beyond a ≡ false) (axioms_of ns)) →
-        cond b (some at) (first_beyond (at + length (rec_bytes (rec_of e))) es ns) ≡ none → All (λ a. beyond a ≡ false) (axiom_of n ++ axioms_of ns)
+    go : (b : Bool) → calls_for20 n ≡ b →
+        (first_beyond (at + length (rec_bytes (rec_of e))) es ns ≡ none → Writable (axioms_of ns) (inclusions_of ns)) →
+        cond b (some at) (first_beyond (at + length (rec_bytes (rec_of e))) es ns) ≡ none →
+        Writable (axiom_of n ++ axioms_of ns) (inclusion_of n ++ inclusions_of ns)
     go true q f h = let z : ◌≡◌ {A = ℕ} 0 1 = cc in absurd (omega arith)
-    go false q f h = with_node n (axioms_of ns) q (f h)
+    go false q f h = with_node n (axioms_of ns) (inclusions_of ns) q (f h)
 
--- what export writes: the text of a knowledge base's axioms, none of which calls for 20
+-- what export writes: the text of a knowledge base's axioms, none of which calls for 20; it has no role inclusion
 pub record Exported (sheet text : List ℕ) : Type 0 where
   pub base : Kb
   pub read : read_kb limit sheet ≡ kb base
   pub names : AxiomNames 12 base.axioms
   pub roles : AxiomRoles Small base.axioms
+  pub inclusions : base.inclusions ≡ []
   pub written : axioms_text base.axioms ≡ text
 
 pub export_writes : (sheet text : List ℕ) → exported sheet ≡ write text → Exported sheet text
@@ -162,7 +175,8 @@ export_writes sheet text e = go (read_kb limit sheet) refl e
           base = k;
           read = r;
           names = axioms_more k.axioms k.names few.0 low.names;
-          roles = axioms-small k.axioms k.roles few.1 low.roles (rw q safe);
+          roles = axioms-small k.axioms k.roles few.1 low.roles (rw q safe.0);
+          inclusions = rw q safe.1;
           written = cc;
         }
 
@@ -172,10 +186,12 @@ export_writes sheet text e = go (read_kb limit sheet) refl e
         let w = kb_state limit sheet q in
         at k w.0 q w.2 (first_beyond 0 w.0.records (nodes_of w.0.records)) refl (rw w.1 at h)
 
--- "importing what was exported, unless refused 3 or 21, gives a sheet with the same rules written alike", and no other refusal comes
+-- "importing what was exported, unless refused 3 or 21, gives a sheet with the same rules written alike", and no other refusal comes.
+-- Neither sheet has a role inclusion (N8)
 pub data Returned (sheet : List ℕ) : Output → Type 0 where
   full : Returned sheet (refuse 3 0)
-  alike : {new : List ℕ} (k : Kb) → read_kb limit sheet ≡ kb k → ReadAs (bare_axioms k.axioms) new → Returned sheet (write new)
+  alike : {new : List ℕ} (k : Kb) → read_kb limit sheet ≡ kb k → k.inclusions ≡ [] → ReadAs (bare_axioms k.axioms) new →
+      Returned sheet (write new)
 
 same_axioms : (l m : List Axiom) (sheet : List ℕ) → l ≡ m → ReadAs l sheet → ReadAs m sheet
 same_axioms l m sheet e w = rw e at w
@@ -188,13 +204,15 @@ pub round_trip : (sheet text : List ℕ) → exported sheet ≡ write text → R
 unfolding imported importing parse
 round_trip sheet text e =
     let w = export_writes sheet text e in
-    go w.base w.read (parse text) refl (parse_gives text) (fetched_text w.base.axioms text w.written (axioms_fetched (suc most) most w.base.axioms w.names w.roles))
+    go w.base w.read w.inclusions (parse text) refl (parse_gives text)
+    (fetched_text w.base.axioms text w.written (axioms_fetched (suc most) most w.base.axioms w.names w.roles))
   where
-    go : (k : Kb) → read_kb limit sheet ≡ kb k → (p : Parsed (List Axiom)) → parse text ≡ p → Gives (AxiomsTook most) p → Fetched (bare_axioms k.axioms) [] p →
-        Returned sheet (importing text p)
-    go k r (refused n l) q g f = rw f full
-    go k r (done l room rest) q g f =
-        alike k r (same_axioms l (bare_axioms k.axioms) (sheet_of l) f.0 (sheet-read l g.names g.roles g.plain (omega (arith, g.sized))))
+    go : (k : Kb) → read_kb limit sheet ≡ kb k → k.inclusions ≡ [] → (p : Parsed (List Axiom)) → parse text ≡ p →
+        Gives (AxiomsTook most) p → Fetched (bare_axioms k.axioms) [] p → Returned sheet (importing text p)
+    go k r i (refused n l) q g f = rw f full
+    go k r i (done l room rest) q g f =
+        alike k r i
+        (same_axioms l (bare_axioms k.axioms) (sheet_of l) f.0 (sheet-read l g.names g.roles g.plain (omega (arith, g.sized))))
 
 -- "importing what was exported, unless refused 3 or 21": the answer to an output and what is left in it, and no other answer comes
 pub data ImportSays (sheet text out : List ℕ) : List ℕ → List ℕ → Type 0 where
@@ -214,7 +232,7 @@ round_trip_says sheet text out e = go (imported text) refl (round_trip sheet tex
 
     go : (o : Output) → imported text ≡ o → Returned sheet o → ImportSays sheet text out (output_says o out) (output_leaves o out)
     go o q full = full
-    go o q (alike {new} k r w) = fits new q (alike k r w) (ltb (length out) (length new)) refl
+    go o q (alike {new} k r i w) = fits new q (alike k r i w) (ltb (length out) (length new)) refl
 
 -- "and so the same verdict, opening and survivors whenever the trait and link numbers all occur in rules"
 pub data Kept (k : Kb) : Output → Type 0 where
@@ -230,21 +248,27 @@ kept_read : (limit : ℕ) (k m : Kb) (new : List ℕ) (st : State) → scan_shee
 unfolding read_kb reading
 kept_read n k m new st r e w h = rw r (ap (admit n) (sym e) ∙ kept_admit n k m w h)
 
-made : (k m : Kb) → k.names ≡ m.names → k.roles ≡ m.roles → bare_axioms k.axioms ≡ bare_axioms m.axioms → WrittenAlike k m
-made k m n l a = rw (n, l, a)
+made : (k m : Kb) → k.names ≡ m.names → k.roles ≡ m.roles → bare_axioms k.axioms ≡ bare_axioms m.axioms → k.inclusions ≡ m.inclusions →
+    WrittenAlike k m
+made k m n l a i = rw (n, l, a, i)
+
+-- without role inclusions the roles that occur are those of axioms
+axioms-occur : (k : Kb) → k.inclusions ≡ [] → Occurring k → axioms_roles k.axioms ≡ k.roles
+unfolding inclusions_roles
+axioms-occur k i o = omega (arith, o.roles, ap inclusions_roles i)
 
 pub round_trip_answers : (sheet text : List ℕ) (k : Kb) → read_kb limit sheet ≡ kb k → Occurring k → exported sheet ≡ write text → Kept k (imported text)
 round_trip_answers sheet text k e o x = go (imported text) (round_trip sheet text x)
   where
-    alike-to : (new : List ℕ) → ReadAs (bare_axioms k.axioms) new → Kept k (write new)
-    alike-to new w =
+    alike-to : (new : List ℕ) → k.inclusions ≡ [] → ReadAs (bare_axioms k.axioms) new → Kept k (write new)
+    alike-to new i w =
         let c = counted-bare k.axioms in
         let m : Kb = kb_of w.state in
         let n : m.names ≡ k.names = w.names ∙ c.0 ∙ o.names in
-        let l : m.roles ≡ k.roles = w.roles ∙ c.1 ∙ o.roles in
-        let a : WrittenAlike k m = made k m (sym n) (sym l) (sym w.alike) in
+        let l : m.roles ≡ k.roles = w.roles ∙ c.1 ∙ axioms-occur k i o in
+        let a : WrittenAlike k m = made k m (sym n) (sym l) (sym w.alike) (i ∙ sym w.inclusions) in
         same m (kept_read limit k m new w.state w.read refl a (kb-small limit sheet e)) a (alike-answers k m a)
 
     go : (out : Output) → Returned sheet out → Kept k out
     go out full = full
-    go out (alike {new} j r w) = let q : j ≡ k = cc in alike-to new (rw q at w)
+    go out (alike {new} j r i w) = let q : j ≡ k = cc in alike-to new (rw q at i) (rw q at w)

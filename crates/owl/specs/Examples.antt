@@ -1,5 +1,5 @@
 -- Worked texts and sheets: what import writes of each text and export of each sheet. Proved in proofs/Worked.antt.
-use Rattle.std.specs.Prelude.{ℕ, List, [], ◌∷◌}
+use Rattle.std.specs.Prelude.{ℕ, List, [], ◌∷◌, ◌++◌}
 use Prim.Native.String.{String}
 use Rattle.output.specs.Text.{text}
 use Rattle.output.specs.Output.{Output, refuse, write}
@@ -43,7 +43,8 @@ imports =
     row " \n" (write []) ∷
     []
 
--- a sheet and what export makes of it; one has a role with `not` that no axiom reaches, the last one with `and` in its second axiom
+-- a sheet and what export makes of it. One has a role with `not` that no axiom reaches, one a role with `and` in its second axiom;
+-- the last three have a role inclusion: alone, after an axiom that calls for 20, and before one
 pub record Sheet : Type 0 where
   pub sheet : List ℕ
   pub written : Output
@@ -54,6 +55,16 @@ export_row r = record { sheet = r.sheet; written = exported r.sheet }
 abbrev sheet_row : List ℕ → Output → Sheet
 sheet_row s o = record { sheet = s; written = o }
 
+-- everything, k0 and k1; that everything is everything, then some k0 and k1 everything; that k0 is within k1
+abbrev roles : List ℕ
+roles = 0x01 ∷ 0x10 ∷ 0x00 ∷ 0x10 ∷ 0x01 ∷ []
+
+abbrev second_composed : List ℕ
+second_composed = roles ++ (0x13 ∷ 0x01 ∷ 0x02 ∷ 0x07 ∷ 0x03 ∷ 0x00 ∷ 0x20 ∷ 0x00 ∷ 0x00 ∷ 0x20 ∷ 0x00 ∷ 0x04 ∷ [])
+
+abbrev inclusion : List ℕ
+inclusion = 0x21 ∷ 0x01 ∷ 0x02 ∷ []
+
 abbrev pub exports : List Sheet
 exports =
     sheet_row complement (write (text "SubClassOf(:t0 ObjectComplementOf(:t1))\n")) ∷
@@ -61,5 +72,8 @@ exports =
     sheet_row booleans (write (text "SubClassOf(ObjectIntersectionOf(:t0 :t11) ObjectUnionOf(:t0 :t0))\n")) ∷
     sheet_row (0x03 ∷ 0x00 ∷ 0x10 ∷ 0x00 ∷ 0x12 ∷ 0x01 ∷ 0x20 ∷ 0x00 ∷ 0x00 ∷ []) (write (text "SubClassOf(:t0 :t0)\n")) ∷
     sheet_row (0x03 ∷ 0x00 ∷ 0x04 ∷ 0x00 ∷ 0x05 ∷ 0x01 ∷ 0x01 ∷ []) (refuse 7 6) ∷
-    sheet_row (0x01 ∷ 0x10 ∷ 0x00 ∷ 0x10 ∷ 0x01 ∷ 0x13 ∷ 0x01 ∷ 0x02 ∷ 0x07 ∷ 0x03 ∷ 0x00 ∷ 0x20 ∷ 0x00 ∷ 0x00 ∷ 0x20 ∷ 0x00 ∷ 0x04 ∷ []) (refuse 20 14) ∷
+    sheet_row second_composed (refuse 20 14) ∷
+    sheet_row (roles ++ inclusion) (refuse 20 5) ∷
+    sheet_row (second_composed ++ inclusion) (refuse 20 14) ∷
+    sheet_row (roles ++ inclusion ++ (0x13 ∷ 0x01 ∷ 0x02 ∷ 0x07 ∷ 0x04 ∷ 0x00 ∷ 0x20 ∷ 0x00 ∷ 0x05 ∷ [])) (refuse 20 5) ∷
     []

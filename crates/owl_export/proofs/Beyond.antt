@@ -6,62 +6,28 @@ use mathlib.Core.Option.{none, some}
 use mathlib.Core.Logic.{◌⊎◌, inl, inr}
 use mathlib.Core.List.{List, [], ◌∷◌, cons≢nil}
 use native.Mathlib.Omega.{arith}
-use lib.ListN.{length, take, drop, get_or-eq_default}
+use lib.ListN.{length, drop, get_or-eq_default}
 use Rattle.std.specs.Prelude.{Some, None, get_or}
 use Rattle.records.specs.Entries.{Entry}
 use Rattle.records.specs.Shapes.{shape_of}
 use Rattle.records.specs.Scan.{record_at_lem, blank}
 use Rattle.records.specs.Nodes.{NodeAt, Says, node_kind}
 use Rattle.records.specs.declared.nodes.Node.{Node}
-use Rattle.records.specs.declared.nodes.Node.TheVariants.{Everything, Nothing, Name, Not, And, Or, Exists, Forall, Role, Inverse, RoleNot, RoleAnd, RoleOr, Axiom}
-use Rattle.syntax.specs.Concepts.{Node as Formed, concept_n, role_n, axiom_n, as_concept, as_role, no_node, nodes_of, axiom_of, concept_below, role_below, node_of}
+use Rattle.records.specs.declared.nodes.Node.TheVariants.{Everything, Nothing, Name, Not, And, Or, Exists, Forall, Role, Inverse, RoleNot, RoleAnd, RoleOr, Axiom, RoleInclusion}
+use Rattle.records.proofs.KindTable.{bounds}
+use Rattle.syntax.specs.Concepts.{Node as Formed, concept_n, role_n, axiom_n, inclusion_n, as_concept, as_role, no_node, nodes_of, axiom_of, inclusion_of, concept_below, role_below, node_of}
 use Rattle.syntax.specs.Laid.{rec_of, rec_bytes}
-use Rattle.syntax.proofs.Trees.{nodes_length, node_is, axiom_none}
+use Rattle.syntax.proofs.Laying.{bytes-length}
+use Rattle.syntax.proofs.Trees.{nodes_length, node_is, axiom_none, inclusion-none}
 use Rattle.flattening.specs.Trees.{NodeBelow}
 use Rattle.flattening.proofs.NodeForms.{formed, concept_says, role_says}
-use Rattle.flattening.proofs.QueueParts.{of_kind}
 use Rattle.owl_export.specs.AxiomText.{composed, has_composed, beyond}
 use Rattle.owl_export.specs.Export.{calls_for20, first_beyond}
 use Rattle.owl_export.specs.RecordText.{makes_role, calls_at}
 
 -- the bytes of a record with a node
-sized : (n : Node) (x y : ℕ) → length (node_kind n ∷ take (shape_of (node_kind n)).body (x ∷ y ∷ [])) ≡ 1 + (shape_of (node_kind n)).body
-unfolding shape_of
-sized Everything x y = refl
-sized Nothing x y = refl
-sized (Name t) x y = refl
-sized (Not a) x y = refl
-sized (And a b) x y = refl
-sized (Or a b) x y = refl
-sized (Exists a b) x y = refl
-sized (Forall a b) x y = refl
-sized (Role k) x y = refl
-sized (Inverse k) x y = refl
-sized (RoleNot a) x y = refl
-sized (RoleAnd a b) x y = refl
-sized (RoleOr a b) x y = refl
-sized (Axiom a b) x y = refl
-
-pub body_few : (n : Node) → (shape_of (node_kind n)).body ≤ 2
-unfolding shape_of
-body_few Everything = omega arith
-body_few Nothing = omega arith
-body_few (Name t) = omega arith
-body_few (Not a) = omega arith
-body_few (And a b) = omega arith
-body_few (Or a b) = omega arith
-body_few (Exists a b) = omega arith
-body_few (Forall a b) = omega arith
-body_few (Role k) = omega arith
-body_few (Inverse k) = omega arith
-body_few (RoleNot a) = omega arith
-body_few (RoleAnd a b) = omega arith
-body_few (RoleOr a b) = omega arith
-body_few (Axiom a b) = omega arith
-
 record_size : (e : Entry) (n : Node) → Says e n → length (rec_bytes (rec_of e)) ≡ 1 + (shape_of (node_kind n)).body
-unfolding rec_bytes
-record_size e n h = rw h.kind (sized n e.first e.second)
+record_size e n h = rw (← h.kind) (bytes-length (rec_of e))
 
 -- from the record i on, of two lists as long as each other
 next_beyond : (at i : ℕ) (es : List Entry) (ns : List Formed) → i < length es → length ns ≡ length es →
@@ -106,10 +72,10 @@ module _ (es : List Entry) where
       pub passed_found : calls_at es i ≡ true → first_beyond 0 es (nodes_of es) ≡ some at
       passed_found e = from_here ∙ rw e
 
-      pub passed_next : calls_at es i ≡ false → (v : ℕ) → v ≡ at + (1 + (shape_of (node_kind n)).body) → (shape_of (node_kind n)).body ≤ 2 → Passed v (i + 1)
-      passed_next e v q l = record {
+      pub passed_next : calls_at es i ≡ false → (v : ℕ) → v ≡ at + (1 + (shape_of (node_kind n)).body) → Passed v (i + 1)
+      passed_next e v q = record {
         from = from_here ∙ rw (e, record_size (record_at_lem es i) n h.1, q, one) refl;
-        few = omega (arith, p.few);
+        few = omega (arith, p.few, (bounds (node_kind n)).body);
       }
         where
           one : i + 1 ≡ suc i
@@ -117,11 +83,12 @@ module _ (es : List Entry) where
 
 -- ---- what a rule reaches
 
-no_axiom : (f : Formed) → axiom_of f ≡ [] → false ≡ calls_for20 f
-unfolding axiom_of calls_for20
-no_axiom (concept_n c) e = refl
-no_axiom (role_n u) e = refl
-no_axiom (axiom_n a) e = absurd (cons≢nil e)
+no-rule : (f : Formed) → axiom_of f ≡ [] → inclusion_of f ≡ [] → false ≡ calls_for20 f
+unfolding axiom_of inclusion_of calls_for20
+no-rule (concept_n c) e i = refl
+no-rule (role_n u) e i = refl
+no-rule (axiom_n a) e i = absurd (cons≢nil e)
+no-rule (inclusion_n v) e i = absurd (cons≢nil i)
 
 -- record i, by its node
 module _ (es : List Entry) (i : ℕ) (n : Node) (h : NodeAt es i (Some n)) where
@@ -129,8 +96,15 @@ module _ (es : List Entry) (i : ℕ) (n : Node) (h : NodeAt es i (Some n)) where
   unfolding calls_for20 beyond node_of concept_below
   calls_axiom a b e = rw (node_is es i (record_at_lem es i) refl, h.1.kind, h.1.first, h.1.second, e) refl
 
-  pub calls_other : ((a b : ℕ) → n ≡ Axiom a b → ⊥) → false ≡ calls_at es i
-  calls_other f = no_axiom (get_or (nodes_of es) i no_node) (axiom_none es i (record_at_lem es i) refl (λ k. of_kind n f (sym h.1.kind ∙ k)))
+  pub calls_inclusion : (a b : ℕ) → n ≡ RoleInclusion a b → true ≡ calls_at es i
+  unfolding calls_for20 node_of
+  calls_inclusion a b e = rw (node_is es i (record_at_lem es i) refl, h.1.kind, e) refl
+
+pub calls_other : (es : List Entry) (i : ℕ) → ((record_at_lem es i).kind ≡ 32 → ⊥) → ((record_at_lem es i).kind ≡ 33 → ⊥) →
+    false ≡ calls_at es i
+calls_other es i f g =
+    no-rule (get_or (nodes_of es) i no_node) (axiom_none es i (record_at_lem es i) refl f)
+    (inclusion-none es i (record_at_lem es i) refl g)
 
 pub calls_past : (es : List Entry) (i : ℕ) → NodeAt es i None → false ≡ calls_at es i
 unfolding calls_for20
@@ -183,6 +157,7 @@ module _ (es : List Entry) (below r : ℕ) where
         at (RoleAnd a b) q = refl
         at (RoleOr a b) q = refl
         at (Axiom a b) q = refl
+        at (RoleInclusion a b) q = refl
 
   -- a role, by its node
   pub composed_past : NodeBelow es below r None → false ≡ composed (role_below es below r)
@@ -208,6 +183,7 @@ module _ (es : List Entry) (below r : ℕ) where
       makes (RoleAnd a b) = refl
       makes (RoleOr a b) = refl
       makes (Axiom a b) = refl
+      makes (RoleInclusion a b) = refl
 
 -- the answer of a test that goes on where the first part fails
 pub or_first : {p r x : Bool} (q : Bool) → x ≡ p → x ≡ true → (p || q) ≡ r → x ≡ r

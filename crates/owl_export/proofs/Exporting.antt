@@ -9,7 +9,7 @@ use lib.ListN.{length}
 use Rattle.std.specs.Prelude.{Ok, Err}
 use Rattle.refusals.specs.Numbers.{number}
 use Rattle.refusals.specs.declared.Refusal.{Refusal}
-use Rattle.refusals.specs.declared.Reason.TheVariants.{ComposedRole, OutputTooShort}
+use Rattle.refusals.specs.declared.Reason.TheVariants.{BeyondText, OutputTooShort}
 use Rattle.output.specs.Output.{Writes, write, output_says, output_leaves}
 use Rattle.records.specs.Entries.{Entry}
 use Rattle.syntax.specs.Concepts.{nodes_of, axioms_of}
@@ -32,10 +32,10 @@ module _ (sheet out : List ℕ) where
     unfolding exported exporting export_of
     exported_is = rw (h.reading, ← h.records.1) refl
 
-    pub export_composed : (p : ℕ) → first_beyond 0 es (nodes_of es) ≡ some p → (x : Refusal) → x.reason ≡ ComposedRole → x.place ≡ p
+    pub export_beyond : (p : ℕ) → first_beyond 0 es (nodes_of es) ≡ some p → (x : Refusal) → x.reason ≡ BeyondText → x.place ≡ p
         → Writes (exported sheet) out out (Err x)
     unfolding export_at output_says output_leaves
-    export_composed p f x e q = rw (exported_is, f, e, q) (record { answer = refl; output = refl })
+    export_beyond p f x e q = rw (exported_is, f, e, q) (record { answer = refl; output = refl })
 
     module _ (f : first_beyond 0 es (nodes_of es) ≡ none) where
       exported_lines : exported sheet ≡ write (lines_of es)

@@ -12,7 +12,7 @@ use Rattle.records.specs.Entries.{Entry}
 use Rattle.records.specs.Scan.{record_at_lem}
 use Rattle.records.specs.Nodes.{NodeAt, node_kind}
 use Rattle.records.specs.declared.nodes.Node.{Node}
-use Rattle.records.specs.declared.nodes.Node.TheVariants.{Everything, Nothing, Name, Not, And, Or, Exists, Forall, Role, Inverse, RoleNot, RoleAnd, RoleOr, Axiom}
+use Rattle.records.specs.declared.nodes.Node.TheVariants.{Everything, Nothing, Name, Not, And, Or, Exists, Forall, Role, Inverse, RoleNot, RoleAnd, RoleOr, Axiom, RoleInclusion}
 use Rattle.owl_words.specs.Words.{digits, spelling}
 use Rattle.output.specs.Text.{text}
 use Rattle.syntax.specs.Concepts.{Role as RoleTree, named, inverse, not_r, and_r, or_r, Node as Formed, as_concept, as_role, no_node, node_of, nodes_of, axiom_of, axioms_of, concept_below, role_below, Axiom as AxiomOf}
@@ -124,6 +124,7 @@ module _ (es : List Entry) (below r : ℕ) where
         at (RoleAnd a b) q = absurd (false≢true (sym f ∙ ap composed (sym (role_node (RoleAnd a b) q))))
         at (RoleOr a b) q = absurd (false≢true (sym f ∙ ap composed (sym (role_node (RoleOr a b) q))))
         at (Axiom a b) q = refl
+        at (RoleInclusion a b) q = refl
 
     -- every other concept, by the arms that come before
     pub text_other : (n ≡ Everything → ⊥) → ((t : ℕ) → n ≡ Name t → ⊥) → ((a : ℕ) → n ≡ Not a → ⊥) → ((a b : ℕ) → n ≡ And a b → ⊥)

@@ -3,7 +3,7 @@ use Rattle.std.specs.Prelude.{ℕ, Bool, true, false, ◌≡◌, List, [], ◌�
 use mathlib.Core.Option.{none, some}
 use Rattle.records.specs.Entries.{Entry}
 use Rattle.records.specs.declared.nodes.Node.{Node}
-use Rattle.records.specs.declared.nodes.Node.TheVariants.{Everything, Nothing, Name, Not, And, Or, Exists, Forall, Role, Inverse, RoleNot, RoleAnd, RoleOr, Axiom}
+use Rattle.records.specs.declared.nodes.Node.TheVariants.{Everything, Nothing, Name, Not, And, Or, Exists, Forall, Role, Inverse, RoleNot, RoleAnd, RoleOr, Axiom, RoleInclusion}
 use Rattle.syntax.specs.Concepts.{Concept, nodes_of, no_node, axiom_of, axioms_of, concept_below}
 use Rattle.flattening.specs.Trees.{role_at}
 use Rattle.flattening.specs.declared.trees.Tree.{Tree}
@@ -26,6 +26,7 @@ makes_role (Forall a b) = false
 makes_role (Role k) = false
 makes_role (Inverse k) = false
 makes_role (Axiom a b) = false
+makes_role (RoleInclusion a b) = false
 
 abbrev pub concept_of : Tree → Concept
 concept_of t = concept_below t.table.now t.below t.number

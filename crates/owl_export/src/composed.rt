@@ -1,4 +1,4 @@
-// Whether a rule has a role with not, and, or, which the text has no form for.
+// What the text has no form for: a role with not, and, or in a rule, and a role inclusion.
 ghost use Rattle.std.specs.Prelude.{◌≡◌};
 ghost use Rattle.owl_export.specs.AxiomText.{composed, has_composed};
 ghost use Rattle.flattening.specs.Trees.{role_at};
@@ -43,27 +43,30 @@ fn has_composed(tree: Tree) -> bool
     }
 }
 
-// Does record i call for refusal 20? Only a rule does, by what it reaches.
+// Does record i call for refusal 20? A rule does, by what it reaches, and each role inclusion.
 fn calls_for_20(table: &Table, i: u8) -> bool
     ensures { result ≡ calls_at table.now i }
 {
     let Some(node) = table.node(i) else {
         return false;
     };
-    let Node::Axiom(left, right) = node else {
-        return false;
-    };
-    let axiom = Tree {
-        table,
-        number: i,
-        below: table.len(),
-    };
-    has_composed(axiom.operand(left)) || has_composed(axiom.operand(right))
+    match node {
+        Node::RoleInclusion(_, _) => true,
+        Node::Axiom(left, right) => {
+            let axiom = Tree {
+                table,
+                number: i,
+                below: table.len(),
+            };
+            has_composed(axiom.operand(left)) || has_composed(axiom.operand(right))
+        }
+        _ => false,
+    }
 }
 
 // The byte where the first record that calls for refusal 20 starts.
 // By number, since an axiom is read as a `Tree`, which takes a record's number.
-pub(crate) fn first_composed(table: &Table) -> Option<usize>
+pub(crate) fn first_beyond_text(table: &Table) -> Option<usize>
     ensures { FirstBeyond table.now result }
 {
     let mut at = 0;

@@ -7,7 +7,7 @@ ghost use Rattle.owl_export.specs.Export.{exported};
 mod composed;
 mod writer;
 
-use crate::composed::first_composed;
+use crate::composed::first_beyond_text;
 use crate::writer::Writer;
 use records::table::Table;
 use refusals::{Reason, Refusal};
@@ -20,8 +20,8 @@ pub fn export(sheet: &[u8], out: &mut [u8]) -> Result<usize, Refusal>
 {
     let mut table = Table::new();
     Admitted::read(sheet, &mut table)?;
-    if let Some(at) = first_composed(&table) {
-        return Err(Refusal::at(Reason::ComposedRole, at));
+    if let Some(at) = first_beyond_text(&table) {
+        return Err(Refusal::at(Reason::BeyondText, at));
     }
     let most = out.len();
     let mut counted = Writer {

@@ -1,4 +1,4 @@
--- The records that import writes of axioms are well-formed, and their trees are those axioms written alike.
+-- The records that import writes of axioms are well-formed, and their trees are those axioms written alike, with no role inclusion.
 use Prim.Native.Nat.{ℕ, ◌+◌, ◌≤◌}
 use mathlib.Core.Path.{◌≡◌, refl, sym, ap, ◌∙◌}
 use mathlib.Core.Bool.{Bool, true, false, cond, ◌&&◌}
@@ -10,9 +10,9 @@ use native.Mathlib.Omega.{arith}
 use borrow.Author.Tests.{ne_eqb, eq-eqb, lt-leb}
 use Rattle.records.specs.Shapes.{Shape}
 use Rattle.records.specs.Entries.{Entry}
-use Rattle.records.specs.Shapes.{shape_of, is_restriction_lem}
+use Rattle.records.specs.Shapes.{shape_of, needs_restricted_lem}
 use Rattle.records.specs.Scan.{State, start, blank, record_at_lem, or_else, number_fault_lem, sort_fault_lem, again_fault_lem, reference_fault_lem, naming, name, empty_fault_lem, body_fault, vacuous_of_lem, entry_for, after}
-use Rattle.syntax.specs.Concepts.{Role, named, inverse, not_r, and_r, or_r, Concept, top_c, bottom_c, name_c, not_c, and_c, or_c, exists_c, forall_c, Axiom, Node, concept_n, role_n, axiom_n, no_node, concept_at, role_at, node_of, nodes_from, nodes_of, axiom_of, axioms_of}
+use Rattle.syntax.specs.Concepts.{Role, named, inverse, not_r, and_r, or_r, Concept, top_c, bottom_c, name_c, not_c, and_c, or_c, exists_c, forall_c, Axiom, Node, concept_n, role_n, axiom_n, no_node, concept_at, role_at, node_of, nodes_from, nodes_of, axiom_of, axioms_of, inclusion_of, inclusions_of}
 use Rattle.syntax.specs.Bounds.{NamesBelow, EachRole, AxiomNames, AxiomRoles}
 use Rattle.syntax.specs.Laid.{Rec, rec, rec_of, Sound, reach, Follows, WellFormed}
 use Rattle.owl_import.specs.RecordsOf.{last_of, put_role, joins, put_concept, put_axiom, put_axioms}
@@ -249,6 +249,53 @@ unfolding put_axioms
 axioms-stand [] h rs = sym (append-nil (bare_axioms (axioms_of (trees rs))))
 axioms-stand (a ∷ l) h rs = axioms-stand l h.2 (put_axiom rs a) ∙ rw (axiom_stands a h.0 h.1 rs, append_assoc)
 
+-- a record that is no role inclusion adds none
+inclusions-snoc : (ns : List Node) (n : Node) → inclusion_of n ≡ [] → inclusions_of (ns ++ (n ∷ [])) ≡ inclusions_of ns
+unfolding inclusions_of
+inclusions-snoc [] n e = rw e
+inclusions-snoc (m ∷ ns) n e = rw (inclusions-snoc ns n e)
+
+adds-none : (x : List Rec) (r : Rec) → inclusion_of (tree_of (trees x) r) ≡ [] →
+    inclusions_of (trees (x ++ (r ∷ []))) ≡ inclusions_of (trees x)
+adds-none x r e = rw (trees_snoc x r) (inclusions-snoc (trees x) (tree_of (trees x) r) e)
+
+role-inclusions : (u : Role) (rs : List Rec) → inclusions_of (trees (put_role rs u)) ≡ inclusions_of (trees rs)
+unfolding put_role node_of inclusion_of
+role-inclusions (named k) rs = adds-none rs _ refl
+role-inclusions (inverse k) rs = adds-none rs _ refl
+role-inclusions (not_r u) rs = adds-none (put_role rs u) _ refl ∙ role-inclusions u rs
+role-inclusions (and_r u v) rs =
+    adds-none (put_role (put_role rs u) v) _ refl ∙ role-inclusions v (put_role rs u) ∙ role-inclusions u rs
+role-inclusions (or_r u v) rs =
+    adds-none (put_role (put_role rs u) v) _ refl ∙ role-inclusions v (put_role rs u) ∙ role-inclusions u rs
+
+concept-inclusions : (c : Concept) (rs : List Rec) → inclusions_of (trees (put_concept rs c)) ≡ inclusions_of (trees rs)
+unfolding put_concept node_of inclusion_of
+concept-inclusions top_c rs = adds-none rs _ refl
+concept-inclusions bottom_c rs = adds-none rs _ refl
+concept-inclusions (name_c t) rs = adds-none rs _ refl
+concept-inclusions (not_c c) rs = adds-none (put_concept rs c) _ refl ∙ concept-inclusions c rs
+concept-inclusions (and_c c d) rs =
+    adds-none (put_concept (put_concept rs c) d) _ refl ∙ concept-inclusions d (put_concept rs c) ∙ concept-inclusions c rs
+concept-inclusions (or_c c d) rs =
+    adds-none (put_concept (put_concept rs c) d) _ refl ∙ concept-inclusions d (put_concept rs c) ∙ concept-inclusions c rs
+concept-inclusions (exists_c r g u c) rs =
+    adds-none (put_concept (put_role rs u) c) _ refl ∙ concept-inclusions c (put_role rs u) ∙ role-inclusions u rs
+concept-inclusions (forall_c r g u c) rs =
+    adds-none (put_concept (put_role rs u) c) _ refl ∙ concept-inclusions c (put_role rs u) ∙ role-inclusions u rs
+
+axioms-inclusions : (l : List Axiom) (rs : List Rec) → inclusions_of (trees (put_axioms rs l)) ≡ inclusions_of (trees rs)
+unfolding put_axioms put_axiom node_of inclusion_of
+axioms-inclusions [] rs = refl
+axioms-inclusions (a ∷ l) rs =
+    axioms-inclusions l (put_axiom rs a) ∙ adds-none (put_concept (put_concept rs a.left) a.right) _ refl ∙
+    concept-inclusions a.right (put_concept rs a.left) ∙ concept-inclusions a.left rs
+
+-- what import writes has no role inclusion
+pub no-inclusions : (l : List Axiom) → inclusions_of (nodes_of (reach start (put_axioms [] l)).records) ≡ []
+unfolding inclusions_of trees_from
+no-inclusions l = rw (nodes_trees (reach start (put_axioms [] l)).records, reads-back (put_axioms [] l)) (axioms-inclusions l [])
+
 -- Faults: none.
 none-wanted : (es : List Entry) (i : ℕ) → reference_fault_lem es 0 i ≡ 0
 unfolding reference_fault_lem
@@ -272,7 +319,7 @@ reference-at w p e q i h s n = go (eqb w 0)
 
 empty_at : (s : Shape) (p : List Entry) (e : Entry) (q : List Entry) (i : ℕ) → length p ≡ i → e.vacuous ≡ false → empty_fault_lem (p ++ (e ∷ q)) s i ≡ 0
 unfolding empty_fault_lem
-empty_at s p e q i h v = rw (get_or_at p e q blank i h, v) (go (is_restriction_lem s))
+empty_at s p e q i h v = rw (get_or_at p e q blank i h, v) (go (needs_restricted_lem s))
   where
     go : (b : Bool) → ◌≡◌ {A = ℕ} (cond (b && false) 8 0) 0
     go true = refl
@@ -322,7 +369,7 @@ leaf_holds rs r sort f s p q t v =
     }
 
 role_holds_lem : (u : Role) → Small u → (rs : List Rec) → Follows start rs → Holds 2 rs (put_role rs u)
-unfolding put_role shape_of vacuous_of_lem body_fault number_fault_lem reference_fault_lem empty_fault_lem is_restriction_lem
+unfolding put_role shape_of vacuous_of_lem body_fault number_fault_lem reference_fault_lem empty_fault_lem needs_restricted_lem
 role_holds_lem (named k) h rs f =
     leaf_holds rs (rec 0x10 k 0) 2 f
     (record { known = λ e. absurd (omega arith); right = rw (lt-leb 4 k h); first = λ e. absurd (omega arith); second = λ e. refl }) refl refl refl refl
@@ -403,11 +450,11 @@ module _ {v w : ℕ} {rs x y : List Rec} (s : Holds v rs x) (t : Holds w x y) wh
       }
 
 not-right : (es : List Entry) (i : ℕ) → reference_fault_lem es 1 i ≡ 0 → (body_fault es (shape_of 0x04) i 0).number ≡ 0
-unfolding shape_of body_fault number_fault_lem empty_fault_lem is_restriction_lem
+unfolding shape_of body_fault number_fault_lem empty_fault_lem needs_restricted_lem
 not-right es i h = rw (h, none-wanted)
 
 not-holds : {rs x : List Rec} (s : Holds 1 rs x) → Holds 1 rs (x ++ (rec 0x04 (last_of x) 0 ∷ []))
-unfolding shape_of vacuous_of_lem body_fault number_fault_lem reference_fault_lem name empty_fault_lem is_restriction_lem
+unfolding shape_of vacuous_of_lem body_fault number_fault_lem reference_fault_lem name empty_fault_lem needs_restricted_lem
 not-holds {rs} {x} s =
     record {
       between = s.between ++ (naming s.top ∷ []);
@@ -436,7 +483,7 @@ not-holds {rs} {x} s =
     taken = rw s.are (name-at 1 (λ z. omega arith) (entries rs ++ s.between) s.top [] (last_of x) place)
 
 concept-holds : (c : Concept) → NamesBelow 12 c → EachRole Small c → (rs : List Rec) → Follows start rs → Holds 1 rs (put_concept rs c)
-unfolding put_concept NamesBelow EachRole shape_of vacuous_of_lem body_fault number_fault_lem reference_fault_lem empty_fault_lem is_restriction_lem
+unfolding put_concept NamesBelow EachRole shape_of vacuous_of_lem body_fault number_fault_lem reference_fault_lem empty_fault_lem needs_restricted_lem
 concept-holds top_c n h rs f =
     leaf_holds rs (rec 0x01 0 0) 1 f (record { known = λ e. absurd (omega arith); right = refl; first = λ e. refl; second = λ e. refl }) refl refl refl refl
 concept-holds bottom_c n h rs f =

@@ -8,7 +8,7 @@ use native.Mathlib.Omega.{arith}
 use borrow.Author.Tests.{eqb-true, eqb-false, leb-true}
 use Rattle.records.specs.Shapes.{Shape}
 use Rattle.records.specs.Entries.{Entry}
-use Rattle.records.specs.Shapes.{Row, rows, rowed, unknown, within, shaped, shape_of, is_leaf_lem}
+use Rattle.records.specs.Shapes.{Row, rows, rowed, unknown, within, shaped, shape_of, is_leaf_lem, needs_restricted_lem}
 use Rattle.records.specs.Scan.{vacuous_of_lem}
 
 left : (a b : Bool) → T (a && b) → T a
@@ -123,12 +123,12 @@ outside lo k p q = go (leb lo k) refl (leb k (suc lo)) refl
     go false l c h = refl
 
 pub kind_cases : (P : ℕ → Type 0) → P 0x01 → P 0x02 → P 0x03 → P 0x04 → P 0x05 → P 0x06 → P 0x07 → P 0x08 → P 0x10 → P 0x11 → P 0x12 → P 0x13 →
-    P 0x14 → P 0x20 → (k : ℕ) → ((shape_of k).sort ≡ 0 → P k) → P k
+    P 0x14 → P 0x20 → P 0x21 → (k : ℕ) → ((shape_of k).sort ≡ 0 → P k) → P k
 unfolding shape_of
-kind_cases P p1 p2 p3 p4 p5 p6 p7 p8 p10 p11 p12 p13 p14 p20 k none =
+kind_cases P p1 p2 p3 p4 p5 p6 p7 p8 p10 p11 p12 p13 p14 p20 p21 k none =
     try P k 0x01 p1 (λ e1. try P k 0x02 p2 (λ e2. try P k 0x03 p3 (λ e3. try P k 0x04 p4 (λ e4. try P k 0x05 p5 (λ e5. try P k 0x06 p6 (λ e6.
     try P k 0x07 p7 (λ e7. try P k 0x08 p8 (λ e8. try P k 0x10 p10 (λ e10. try P k 0x11 p11 (λ e11. try P k 0x12 p12 (λ e12. try P k 0x13 p13 (λ e13.
-    try P k 0x14 p14 (λ e14. try P k 0x20 p20 (λ e20.
+    try P k 0x14 p14 (λ e14. try P k 0x20 p20 (λ e20. try P k 0x21 p21 (λ e21.
     none (rw (
       outside 0x01 k e1 e2,
       outside1 0x03 k e3,
@@ -139,20 +139,29 @@ kind_cases P p1 p2 p3 p4 p5 p6 p7 p8 p10 p11 p12 p13 p14 p20 k none =
       outside1 0x12 k e12,
       outside 0x13 k e13 e14,
       outside1 0x20 k e20,
-    ))))))))))))))))
+      outside1 0x21 k e21,
+    )))))))))))))))))
 
 -- a known kind is one of the table's
 pub known_cases : (P : ℕ → Type 0) → P 0x01 → P 0x02 → P 0x03 → P 0x04 → P 0x05 → P 0x06 → P 0x07 → P 0x08 → P 0x10 → P 0x11 → P 0x12 → P 0x13 →
-    P 0x14 → P 0x20 → (k : ℕ) → ((shape_of k).sort ≡ 0 → ⊥) → P k
-known_cases P p1 p2 p3 p4 p5 p6 p7 p8 p10 p11 p12 p13 p14 p20 k known =
-    kind_cases P p1 p2 p3 p4 p5 p6 p7 p8 p10 p11 p12 p13 p14 p20 k (λ u. absurd (known u))
+    P 0x14 → P 0x20 → P 0x21 → (k : ℕ) → ((shape_of k).sort ≡ 0 → ⊥) → P k
+known_cases P p1 p2 p3 p4 p5 p6 p7 p8 p10 p11 p12 p13 p14 p20 p21 k known =
+    kind_cases P p1 p2 p3 p4 p5 p6 p7 p8 p10 p11 p12 p13 p14 p20 p21 k (λ u. absurd (known u))
 
 -- "Records of kinds 01, 02, 03, 10, 11 may be named often": of the known kinds, the leaves
 pub leaf_kinds : (k : ℕ) → ((shape_of k).sort ≡ 0 → ⊥) → is_leaf_lem (shape_of k) ≡ (within 0x01 0x03 k || within 0x10 0x11 k)
 unfolding shape_of is_leaf_lem
 leaf_kinds =
     known_cases (λ k. is_leaf_lem (shape_of k) ≡ (within 0x01 0x03 k || within 0x10 0x11 k))
-    refl refl refl refl refl refl refl refl refl refl refl refl refl refl
+    refl refl refl refl refl refl refl refl refl refl refl refl refl refl refl
+
+-- "the link of a some or only must fail on the empty set of links", "8 also for kind 21": of the known kinds, those that need a
+-- restricted role
+pub restricted_kinds : (k : ℕ) → ((shape_of k).sort ≡ 0 → ⊥) → needs_restricted_lem (shape_of k) ≡ (within 0x07 0x08 k || within 0x21 0x21 k)
+unfolding shape_of needs_restricted_lem
+restricted_kinds =
+    known_cases (λ k. needs_restricted_lem (shape_of k) ≡ (within 0x07 0x08 k || within 0x21 0x21 k))
+    refl refl refl refl refl refl refl refl refl refl refl refl refl refl refl
 
 -- an unknown kind is none of those with a row
 pub other : (k c : ℕ) → (shape_of k).sort ≡ 0 → T (ltb 0 (shape_of c).sort) → eqb k c ≡ false

@@ -11,7 +11,7 @@ use borrow.Author.Tests.{eqb-true, eqb-false, eq-eqb, leb-true, leb-false, le-le
 use Rattle.records.specs.Shapes.{Shape}
 use Rattle.records.specs.Entries.{Entry}
 use Rattle.records.specs.Scan.{Fault}
-use Rattle.records.specs.Shapes.{within, is_restriction_lem}
+use Rattle.records.specs.Shapes.{within, needs_restricted_lem}
 use Rattle.records.specs.Scan.{State, start, record_at_lem, fault_at_lem, or_else, number_fault_lem, sort_fault_lem, again_fault_lem, reference_fault_lem, name, empty_fault_lem, body_fault, shape_at, record_fault, record_after, refused, whole, scan, scan_sheet}
 use Rattle.records.specs.Places.{start_of, Start, wanted_at, Reference, wanted_by, named_shape, Misnames, is_record_fault, is_reference_fault, Placed}
 use Rattle.records.proofs.KindTable.{Bounds, bounds}
@@ -155,7 +155,7 @@ module _ (es : List Entry) (s : Shape) (a b : ℕ) where
 
   empty_known : Known (fault_at_lem 0 (empty_fault_lem es s a))
   unfolding empty_fault_lem is_record_fault
-  empty_known = pick (is_restriction_lem s && (record_at_lem es a).vacuous)
+  empty_known = pick (needs_restricted_lem s && (record_at_lem es a).vacuous)
     where
       pick : (b : Bool) → Known (fault_at_lem 0 (cond b 8 0))
       pick true = at-start refl refl

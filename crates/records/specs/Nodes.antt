@@ -5,7 +5,7 @@ use Rattle.records.specs.Shapes.{Shape}
 use Rattle.records.specs.Shapes.{shape_of, is_leaf_lem}
 use Rattle.records.specs.Scan.{record_at_lem}
 use Rattle.records.specs.declared.nodes.Node.{Node}
-use Rattle.records.specs.declared.nodes.Node.TheVariants.{Everything, Nothing, Name, Not, And, Or, Exists, Forall, Role, Inverse, RoleNot, RoleAnd, RoleOr, Axiom}
+use Rattle.records.specs.declared.nodes.Node.TheVariants.{Everything, Nothing, Name, Not, And, Or, Exists, Forall, Role, Inverse, RoleNot, RoleAnd, RoleOr, Axiom, RoleInclusion}
 use Rattle.records.specs.declared.nodes.Record.{Record}
 
 -- a node's kind byte and body bytes (01, the table of kinds)
@@ -24,6 +24,7 @@ node_kind (RoleNot a) = 0x12
 node_kind (RoleAnd a b) = 0x13
 node_kind (RoleOr a b) = 0x14
 node_kind (Axiom a b) = 0x20
+node_kind (RoleInclusion a b) = 0x21
 
 abbrev pub node_first : Node → ℕ
 node_first Everything = 0
@@ -40,6 +41,7 @@ node_first (RoleNot a) = a
 node_first (RoleAnd a b) = a
 node_first (RoleOr a b) = a
 node_first (Axiom a b) = a
+node_first (RoleInclusion a b) = a
 
 abbrev pub node_second : Node → ℕ
 node_second Everything = 0
@@ -56,6 +58,7 @@ node_second (RoleNot a) = 0
 node_second (RoleAnd a b) = b
 node_second (RoleOr a b) = b
 node_second (Axiom a b) = b
+node_second (RoleInclusion a b) = b
 
 unfoldable pub entry_of : Record → Entry
 entry_of r =

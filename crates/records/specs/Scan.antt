@@ -2,7 +2,7 @@
 use Rattle.std.specs.Prelude.{ℕ, zero, suc, ◌+◌, ◌-◌, max, Bool, true, false, cond, not, ◌&&◌, ◌||◌, List, [], ◌∷◌, ◌++◌, length, get_or, set, ltb, leb, eqb}
 use Rattle.records.specs.Shapes.{Shape}
 use Rattle.records.specs.Entries.{Entry}
-use Rattle.records.specs.Shapes.{shape_of, is_leaf_lem, is_restriction_lem}
+use Rattle.records.specs.Shapes.{shape_of, is_leaf_lem, needs_restricted_lem}
 
 -- what has been read: the byte where the next record starts, the records, and one more than the largest number of a name
 -- (01 calls it a trait) and of a role (a link)
@@ -65,9 +65,9 @@ naming e = record { kind = e.kind; first = e.first; second = e.second; named = t
 unfoldable pub name : List Entry → ℕ → ℕ → List Entry
 name es wanted r = cond (eqb wanted 0) es (set es r (naming (record_at_lem es r)))
 
--- 8: the link of a some or only holds on the empty set
+-- 8: the link of a some or only holds on the empty set; "8 also for kind 21" (02, N8), of its first link
 unfoldable pub empty_fault_lem : List Entry → Shape → ℕ → ℕ
-empty_fault_lem es s a = cond (is_restriction_lem s && (record_at_lem es a).vacuous) 8 0
+empty_fault_lem es s a = cond (needs_restricted_lem s && (record_at_lem es a).vacuous) 8 0
 
 -- the first fault of a record whose body is there: "4; then for each reference in turn 5, 6, 7; last 8"; 02, N6: "place all
 -- faults of a reference at that reference's byte", which is the first or the second of the body

@@ -1,5 +1,5 @@
 -- What a kind byte decides (01, "The sheet's bytes": the kind byte decides the body length and the sort).
-use Rattle.std.specs.Prelude.{ℕ, Bool, cond, ◌&&◌, List, [], ◌∷◌, leb, eqb}
+use Rattle.std.specs.Prelude.{ℕ, Bool, not, cond, ◌&&◌, List, [], ◌∷◌, leb, eqb}
 
 -- what a kind byte decides: the record's own sort (0 unknown, 1 concept, 2 role, 3 axiom), the length of its body, the limit of the
 -- number in it (0: there is none), and the sorts that its references must have (0: there is none)
@@ -37,6 +37,7 @@ rows =
     row 0x12 0x12 (shaped 2 1 0 2 0) ∷
     row 0x13 0x14 (shaped 2 2 0 2 2) ∷
     row 0x20 0x20 (shaped 3 2 0 1 1) ∷
+    row 0x21 0x21 (shaped 3 2 0 2 2) ∷
     []
 
 -- 1: "unknown kind"
@@ -54,6 +55,7 @@ shape_of k = rowed rows k
 unfoldable pub is_leaf_lem : Shape → Bool
 is_leaf_lem s = eqb s.first 0
 
--- "the link of a some or only must fail on the empty set of links": a concept whose first reference is a role
-unfoldable pub is_restriction_lem : Shape → Bool
-is_restriction_lem s = eqb s.sort 1 && eqb s.first 2
+-- "the link of a some or only must fail on the empty set of links" and, of a rule of kind 21, "The first link must fail on the empty
+-- set" (02, N8): what is no role, and whose first reference is one. 002 calls a role that fails there restricted.
+unfoldable pub needs_restricted_lem : Shape → Bool
+needs_restricted_lem s = not (eqb s.sort 2) && eqb s.first 2

@@ -64,7 +64,7 @@ fn reference_fault(table: &Table, wanted: Option<Sort>, r: u8) -> Result<(), Rea
 fn empty_fault(table: &Table, shape: Shape, a: u8) -> Result<(), Reason>
     ensures { fault_number result ≡ empty_fault_lem table.now (shape_seen shape) a }
 {
-    if shape.is_restriction() && table.is_vacuous(a) {
+    if shape.needs_restricted() && table.is_vacuous(a) {
         return Err(Reason::EmptyRoles);
     }
     Ok(())

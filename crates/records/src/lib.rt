@@ -119,6 +119,7 @@ fn step(sheet: &[u8], table: &mut Table, p: Progress) -> Result<Progress, Refusa
         0x13 => step_of_kind(sheet, table, p, 0x13),
         0x14 => step_of_kind(sheet, table, p, 0x14),
         0x20 => step_of_kind(sheet, table, p, 0x20),
+        0x21 => step_of_kind(sheet, table, p, 0x21),
         _ => step_of_kind(sheet, table, p, k),
     }
 }

@@ -25,6 +25,7 @@ pub enum Node {
     RoleAnd(u8, u8),
     RoleOr(u8, u8),
     Axiom(u8, u8),
+    RoleInclusion(u8, u8),
 }
 
 // A record: its node, whether a later record names it, and whether it is a role that holds on the empty role set.
@@ -46,7 +47,7 @@ impl Node {
                 Sort::Concept,
             Node::Role(_) | Node::Inverse(_) | Node::RoleNot(_) => Sort::Role,
             Node::RoleAnd(_, _) | Node::RoleOr(_, _) => Sort::Role,
-            Node::Axiom(_, _) => Sort::Axiom,
+            Node::Axiom(_, _) | Node::RoleInclusion(_, _) => Sort::Axiom,
         }
     }
 
@@ -70,7 +71,8 @@ impl Node {
             Node::Everything | Node::Nothing => 0,
             Node::Name(_) | Node::Not(_) | Node::Role(_) | Node::Inverse(_) | Node::RoleNot(_) => 1,
             Node::And(_, _) | Node::Or(_, _) | Node::Exists(_, _) | Node::Forall(_, _) => 2,
-            Node::RoleAnd(_, _) | Node::RoleOr(_, _) | Node::Axiom(_, _) => 2,
+            Node::RoleAnd(_, _) | Node::RoleOr(_, _) => 2,
+            Node::Axiom(_, _) | Node::RoleInclusion(_, _) => 2,
         }
     }
 
@@ -92,7 +94,8 @@ impl Node {
             | Node::RoleNot(a)
             | Node::RoleAnd(a, _)
             | Node::RoleOr(a, _)
-            | Node::Axiom(a, _) => a,
+            | Node::Axiom(a, _)
+            | Node::RoleInclusion(a, _) => a,
         }
     }
 }
@@ -118,6 +121,7 @@ pub fn node_of(kind: u8, a: u8, b: u8) -> Option<Node>
         0x13 => Node::RoleAnd(a, b),
         0x14 => Node::RoleOr(a, b),
         0x20 => Node::Axiom(a, b),
+        0x21 => Node::RoleInclusion(a, b),
         _ => return None,
     };
     Some(node)

@@ -1,6 +1,6 @@
 // What a kind byte decides: the table of kinds.
 ghost use Rattle.std.specs.Prelude.{◌≡◌};
-ghost use Rattle.records.specs.Shapes.{shape_of, is_restriction_lem};
+ghost use Rattle.records.specs.Shapes.{shape_of, needs_restricted_lem};
 ghost use Rattle.records.specs.Kinds.{shape_seen, shape_numbers};
 
 #[derive(Clone, Copy, PartialEq, Eq)]
@@ -25,12 +25,12 @@ pub struct Shape {
 }
 
 impl Shape {
-    // Whether it is that of a restriction, an existential or a universal.
-    #[tactic(auto, unfolding(crate::specs::Shapes::is_restriction_lem))]
-    pub fn is_restriction(self) -> bool
-        ensures { result ≡ is_restriction_lem (shape_seen self) }
+    // Whether its first reference must be to a restricted role: in an existential, a universal and a role inclusion.
+    #[tactic(auto, unfolding(crate::specs::Shapes::needs_restricted_lem))]
+    pub fn needs_restricted(self) -> bool
+        ensures { result ≡ needs_restricted_lem (shape_seen self) }
     {
-        matches!((self.sort, self.first), (Sort::Concept, Some(Sort::Role)))
+        self.sort != Sort::Role && self.first == Some(Sort::Role)
     }
 }
 
@@ -70,6 +70,7 @@ pub fn shape_of(kind: u8) -> Option<Shape>
         0x12 => row(Sort::Role, 1, None, ROLE, None),
         0x13..=0x14 => row(Sort::Role, 2, None, ROLE, ROLE),
         0x20 => row(Sort::Axiom, 2, None, CONCEPT, CONCEPT),
+        0x21 => row(Sort::Axiom, 2, None, ROLE, ROLE),
         _ => None,
     }
 }

@@ -4,7 +4,7 @@ use Rattle.std.proofs.Common.{sym, ap, ◌∙◌, arith}
 use Rattle.std.proofs.lemmas.Bool.Decides.{nat_tests}
 use Rattle.refusals.specs.Numbers.{number}
 use Rattle.refusals.specs.declared.Reason.{Reason}
-use Rattle.refusals.specs.declared.Reason.TheVariants.{UnknownKind, BodyCutOff, TooManyRecords, NumberTooLarge, NotEarlier, RoleForConcept, NamedAgain, EmptyRoles, TooManyParts, SetTooShort, NoSuchDomino, ListTooShort, SlotTooLong, QueueCutOff, ConceptForRole, AxiomNamed, UnknownWord, MisplacedWord, ComposedRole, OutputTooShort}
+use Rattle.refusals.specs.declared.Reason.TheVariants.{UnknownKind, BodyCutOff, TooManyRecords, NumberTooLarge, NotEarlier, RoleForConcept, NamedAgain, EmptyRoles, TooManyParts, SetTooShort, NoSuchDomino, ListTooShort, SlotTooLong, QueueCutOff, ConceptForRole, AxiomNamed, UnknownWord, MisplacedWord, BeyondText, OutputTooShort}
 
 -- the reason of a number, from a list of reasons in the order of their numbers
 abbrev reason_of : ℕ → Reason
@@ -27,7 +27,7 @@ reason_of n =
     (cond (eqb n 17) AxiomNamed
     (cond (eqb n 18) UnknownWord
     (cond (eqb n 19) MisplacedWord
-    (cond (eqb n 20) ComposedRole
+    (cond (eqb n 20) BeyondText
     OutputTooShort))))))))))))))))))
 
 reason_of-number : (r : Reason) → reason_of (number r) ≡ r
@@ -49,7 +49,7 @@ reason_of-number ConceptForRole = refl
 reason_of-number AxiomNamed = refl
 reason_of-number UnknownWord = refl
 reason_of-number MisplacedWord = refl
-reason_of-number ComposedRole = refl
+reason_of-number BeyondText = refl
 reason_of-number OutputTooShort = refl
 
 pub number_injective : (a b : Reason) → number a ≡ number b → a ≡ b

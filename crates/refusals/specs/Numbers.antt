@@ -1,11 +1,11 @@
 -- The documents' numbers for refusals (01, "The calls, and what each refuses"; 02), and an answer or a refusal as numbers.
 use Rattle.std.specs.Prelude.{ℕ, List, [], ◌∷◌, Result, Ok, Err}
 use Rattle.refusals.specs.declared.Reason.{Reason}
-use Rattle.refusals.specs.declared.Reason.TheVariants.{UnknownKind, BodyCutOff, TooManyRecords, NumberTooLarge, NotEarlier, RoleForConcept, NamedAgain, EmptyRoles, TooManyParts, SetTooShort, NoSuchDomino, ListTooShort, SlotTooLong, QueueCutOff, ConceptForRole, AxiomNamed, UnknownWord, MisplacedWord, ComposedRole, OutputTooShort}
+use Rattle.refusals.specs.declared.Reason.TheVariants.{UnknownKind, BodyCutOff, TooManyRecords, NumberTooLarge, NotEarlier, RoleForConcept, NamedAgain, EmptyRoles, TooManyParts, SetTooShort, NoSuchDomino, ListTooShort, SlotTooLong, QueueCutOff, ConceptForRole, AxiomNamed, UnknownWord, MisplacedWord, BeyondText, OutputTooShort}
 use Rattle.refusals.specs.declared.Refusal.{Refusal}
 
 abbrev pub number : Reason → ℕ
--- 01, "Read"
+-- 01, "Read"; 02, N8: "8 also for kind 21"
 number UnknownKind = 1
 number BodyCutOff = 2
 number TooManyRecords = 3
@@ -25,11 +25,11 @@ number QueueCutOff = 15
 -- 02, N6: "16 a class where a link is wanted, 17 a rule named"
 number ConceptForRole = 16
 number AxiomNamed = 17
--- 02, N7: 18, a word that is not known; 19, a word that cannot stand there; "20, a link with not, and, or in a rule"; "then 21, output
--- too short"
+-- 02, N7: 18, a word that is not known; 19, a word that cannot stand there; "20, a link with not, and, or in a rule", and N8: "20 also
+-- when a sheet to export has one", a rule of kind 21; "then 21, output too short"
 number UnknownWord = 18
 number MisplacedWord = 19
-number ComposedRole = 20
+number BeyondText = 20
 number OutputTooShort = 21
 
 -- a refusal as numbers: its own and its place

@@ -25,7 +25,7 @@ pub enum Reason {
     AxiomNamed = 17,
     UnknownWord = 18,
     MisplacedWord = 19,
-    ComposedRole = 20,
+    BeyondText = 20,
     OutputTooShort = 21,
 }
 

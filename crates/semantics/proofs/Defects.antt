@@ -13,7 +13,7 @@ use Rattle.elimination.proofs.Settling.{defective_by_mono}
 use Rattle.elimination.proofs.Quantifiers.{all-at, all_intro, any_intro, any_found}
 use Rattle.syntax.specs.Bounds.{All}
 use Rattle.semantics.specs.Dominoes.{Dominoes, Domino, number, left_of, roles_of, right_of_lem, inverse, numbered}
-use Rattle.semantics.specs.Conditions.{View, order, first_failing, FirstFails, kb, ex, uni, witness, delex, deluni, sym, condition, defect, initially, sustained, SameDominoes, dominoes, initial, lacks, defective, defect_at}
+use Rattle.semantics.specs.Conditions.{View, order, first_failing, FirstFails, kb, ex, uni, rbox, witness, delex, deluni, sym, condition, defect, initially, sustained, SameDominoes, dominoes, initial, lacks, defective, defect_at}
 use Rattle.semantics.proofs.Numbers.{number_lt, domino_of, inverse_lt}
 
 -- ---- the first number of a list whose test fails
@@ -71,42 +71,44 @@ module _ (test : ℕ → Bool) where
   none_first (j ∷ ks) p = rw p.0 (none_first ks p.1)
 
 order-some : All (λ (k : ℕ). 0 < k) order
-order-some = (omega arith, (omega arith, (omega arith, (omega arith, (omega arith, (omega arith, tt))))))
+order-some = (omega arith, (omega arith, (omega arith, (omega arith, (omega arith, (omega arith, (omega arith, tt)))))))
 
-order_le : All (λ (k : ℕ). k ≤ 6) order
-order_le = (omega arith, (omega arith, (omega arith, (omega arith, (omega arith, (omega arith, tt))))))
+order_le : All (λ (k : ℕ). k ≤ 7) order
+order_le = (omega arith, (omega arith, (omega arith, (omega arith, (omega arith, (omega arith, (omega arith, tt)))))))
 
--- ---- the six conditions
+-- ---- the conditions
 
--- the first of six tests that fails: one of them fails; if the first three pass, it is a later one
-first-not : (a b c d e f : Bool)
-    → (not (a && (b && c)) || not (d && (e && f))) ≡ not (eqb (cond a (cond b (cond c (cond d (cond e (cond f 0 6) 5) 4) 3) 2) 1) 0)
-first-not false b c d e f = refl
-first-not true false c d e f = refl
-first-not true true false d e f = refl
-first-not true true true false e f = refl
-first-not true true true true false f = refl
-first-not true true true true true false = refl
-first-not true true true true true true = refl
+-- the first of seven tests that fails: one of them fails; if the first four pass, it is a later one
+first-not : (a b c g d e f : Bool)
+    → (not (a && (b && (c && g))) || not (d && (e && f)))
+    ≡ not (eqb (cond a (cond b (cond c (cond g (cond d (cond e (cond f 0 6) 5) 4) 7) 3) 2) 1) 0)
+first-not false b c g d e f = refl
+first-not true false c g d e f = refl
+first-not true true false g d e f = refl
+first-not true true true false d e f = refl
+first-not true true true true false e f = refl
+first-not true true true true true false f = refl
+first-not true true true true true true false = refl
+first-not true true true true true true true = refl
 
-first-later : (d e f : Bool) → let k : ℕ = cond d (cond e (cond f 0 6) 5) 4 in (k ≡ 0 → ⊥) → 4 ≤ k
-first-later false e f h = omega arith
-first-later true false f h = omega arith
-first-later true true false h = omega arith
+first-later : (d e f : Bool) → let k : ℕ = cond d (cond e (cond f 0 6) 5) 4 in (k ≡ 0 → ⊥) → (4 ≤ k) × (k ≤ 6)
+first-later false e f h = (omega arith, omega arith)
+first-later true false f h = (omega arith, omega arith)
+first-later true true false h = (omega arith, omega arith)
 first-later true true true h = absurd (h refl)
 
 module _ (v : View) where
   -- the defect, condition by condition
   pub defect_cases : (D : Dominoes) (A R B : ℕ)
-      → defect v D A R B ≡ cond (kb v A) (cond (ex v A R B) (cond (uni v A R B)
-      (cond (delex v D A) (cond (deluni v D A) (cond (sym v D A R B) 0 6) 5) 4) 3) 2) 1
+      → defect v D A R B ≡ cond (kb v A) (cond (ex v A R B) (cond (uni v A R B) (cond (rbox v R)
+      (cond (delex v D A) (cond (deluni v D A) (cond (sym v D A R B) 0 6) 5) 4) 7) 3) 2) 1
   unfolding defect first_failing condition
   defect_cases D A R B = refl
 
   -- a defect is the number of the first condition that fails, and no defect is that none fails
-  pub defect_le : (D : Dominoes) (A R B : ℕ) → defect v D A R B ≤ 6
+  pub defect_le : (D : Dominoes) (A R B : ℕ) → defect v D A R B ≤ 7
   unfolding defect
-  defect_le D A R B = first_in (condition v D A R B) (λ (k : ℕ). k ≤ 6) order (omega arith) order_le
+  defect_le D A R B = first_in (condition v D A R B) (λ (k : ℕ). k ≤ 7) order (omega arith) order_le
 
   pub defect-first : (D : Dominoes) (A R B k : ℕ) → 0 < k → defect v D A R B ≡ k → FirstFails (condition v D A R B) order k
   unfolding defect
@@ -128,43 +130,39 @@ module _ (v : View) where
   unfolding condition initially sustained
   defect-none D A R B q =
       let p = defect_passes D A R B q in (
-        and_i p.0 (and_i p.1.0 p.1.1.0),
-        and_i p.1.1.1.0 (and_i p.1.1.1.1.0 p.1.1.1.1.1.0),
+        and_i p.0 (and_i p.1.0 (and_i p.1.1.0 p.1.1.1.0)),
+        and_i p.1.1.1.1.0 (and_i p.1.1.1.1.1.0 p.1.1.1.1.1.1.0),
+      )
+
+  -- what meets the conditions of the initial set meets each
+  pub initially_each : (A R B : ℕ) → initially v A R B ≡ true →
+      (kb v A ≡ true) × (ex v A R B ≡ true) × (uni v A R B ≡ true) × (rbox v R ≡ true)
+  unfolding initially
+  initially_each A R B p =
+      let i = and_r_lem (kb v A) (ex v A R B && (uni v A R B && rbox v R)) p in
+      let j = and_r_lem (ex v A R B) (uni v A R B && rbox v R) i in (
+        and_l (kb v A) (ex v A R B && (uni v A R B && rbox v R)) p,
+        and_l (ex v A R B) (uni v A R B && rbox v R) i,
+        and_l (uni v A R B) (rbox v R) j,
+        and_r_lem (uni v A R B) (rbox v R) j,
       )
 
   pub none-defect : (D : Dominoes) (A R B : ℕ) → initially v A R B ≡ true → sustained v D A R B ≡ true → defect v D A R B ≡ 0
-  unfolding condition initially sustained
+  unfolding condition sustained
   none-defect D A R B p q =
-      let i = and_r_lem (kb v A) (ex v A R B && uni v A R B) p in
+      let i = initially_each A R B p in
       let s = and_r_lem (delex v D A) (deluni v D A && sym v D A R B) q in
-      passes_defect D A R B (
-        and_l (kb v A) (ex v A R B && uni v A R B) p,
-        (
-          and_l (ex v A R B) (uni v A R B) i,
-          (
-            and_r_lem (ex v A R B) (uni v A R B) i,
-            (
-              and_l (delex v D A) (deluni v D A && sym v D A R B) q,
-              (
-                and_l (deluni v D A) (sym v D A R B) s,
-                (and_r_lem (deluni v D A) (sym v D A R B) s, tt),
-              ),
-            ),
-          ),
-        ),
-      )
+      let d = and_l (delex v D A) (deluni v D A && sym v D A R B) q in
+      let u = and_l (deluni v D A) (sym v D A R B) s in
+      let y = and_r_lem (deluni v D A) (sym v D A R B) s in
+      passes_defect D A R B (i.0, (i.1, (i.2, (i.3, (d, (u, (y, tt)))))))
 
   -- what meets the conditions of the initial set fails another, if any
-  pub defect-later : (D : Dominoes) (A R B : ℕ) → initially v A R B ≡ true → (defect v D A R B ≡ 0 → ⊥) → 4 ≤ defect v D A R B
-  unfolding initially
+  pub defect-later : (D : Dominoes) (A R B : ℕ) → initially v A R B ≡ true → (defect v D A R B ≡ 0 → ⊥) →
+      (4 ≤ defect v D A R B) × (defect v D A R B ≤ 6)
   defect-later D A R B p =
-      let i = and_r_lem (kb v A) (ex v A R B && uni v A R B) p in
-      rw (
-        defect_cases D A R B,
-        and_l (kb v A) (ex v A R B && uni v A R B) p,
-        and_l (ex v A R B) (uni v A R B) i,
-        and_r_lem (ex v A R B) (uni v A R B) i,
-      )
+      let i = initially_each A R B p in
+      rw (defect_cases D A R B, i.0, i.1, i.2, i.3)
       (first-later (delex v D A) (deluni v D A) (sym v D A R B))
 
   -- defective is to have a defect
@@ -175,7 +173,7 @@ module _ (v : View) where
       let A : ℕ = left_of v.parts v.roles n in
       let R : ℕ = roles_of v.parts v.roles n in
       let B : ℕ = right_of_lem v.parts n in
-      first-not (kb v A) (ex v A R B) (uni v A R B) (delex v D A) (deluni v D A) (sym v D A R B)
+      first-not (kb v A) (ex v A R B) (uni v A R B) (rbox v R) (delex v D A) (deluni v D A) (sym v D A R B)
       ∙ ap (λ (k : ℕ). not (eqb k 0)) (flip (defect_cases D A R B))
 
   -- ---- witnesses

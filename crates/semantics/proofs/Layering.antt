@@ -16,19 +16,19 @@ use Rattle.bitset.proofs.Laws.{bit_past}
 use Rattle.bitset.proofs.Facts.{and_l, and_r_lem, and_i, imp_i, imp_e, is_false, iff_eq, dec}
 use Rattle.elimination.specs.Sets.{every, some}
 use Rattle.elimination.proofs.Quantifiers.{all-at, all_intro, any_intro, any_found}
-use Rattle.syntax.specs.Concepts.{Role, named, inverse as inverse_r, not_r, and_r, or_r}
+use Rattle.syntax.specs.Concepts.{Role, named, inverse as inverse_r, not_r, and_r, or_r, RoleInclusion}
 use Rattle.syntax.specs.Normal.{Tag}
 use Rattle.syntax.specs.Flatten.{Filler, Part, exists_p, forall_p, Flat, part_at}
-use Rattle.syntax.specs.Truth.{eval, kb_on, role_on}
-use Rattle.syntax.specs.Bounds.{All, RolesBelow, PartRole}
-use Rattle.semantics.specs.Interpretations.{role_in}
+use Rattle.syntax.specs.Truth.{eval, kb_on, role_on, rbox_on}
+use Rattle.syntax.specs.Bounds.{All, RolesBelow, InclusionBelow, PartRole}
+use Rattle.semantics.specs.Interpretations.{role_in, satisfies_inclusion, satisfies_rbox}
 use Rattle.semantics.specs.Dominoes.{Dominoes, inverse}
 use Rattle.semantics.specs.Conditions.{Stable}
 use Rattle.semantics.specs.Views.{filler_in, view_of}
 use Rattle.semantics.specs.Labelling.{Labelling}
 use Rattle.semantics.specs.Layers.{label_at, leads, roles_at, labelled, Enumerates}
 use Rattle.semantics.proofs.Numbers.{inverse_even, inverse-odd}
-use Rattle.semantics.proofs.Stability.{Witness, stable-kb, stable-ex, stable-uni, stable-delex, stable-deluni, stable-sym}
+use Rattle.semantics.proofs.Stability.{Witness, stable-kb, stable-rbox, stable-ex, stable-uni, stable-delex, stable-deluni, stable-sym}
 
 -- n individuals with labels and role sets, laid out from the set D: two individuals are a domino of D or no role joins them,
 -- each domino that begins with an individual's label leads on from it, and each individual's label begins one
@@ -48,7 +48,7 @@ kb_labels n lab (f ∷ gs) h = (
   kb_labels n lab gs (λ x l. and_r_lem (eval (bit (lab x)) f) (kb_on gs (lab x)) (h x l)),
 )
 
-module _ (L : ℕ) (fs : List Flat) (ps : List Part) (D : Dominoes) (stable : Stable (view_of L fs ps) D)
+module _ (L : ℕ) (incl : List RoleInclusion) (fs : List Flat) (ps : List Part) (D : Dominoes) (stable : Stable (view_of L incl fs ps) D)
     (low : (k : ℕ) → PartRole (RolesBelow L) (part_at ps k)) (restricted : (k : ℕ) → PartRole (λ u. role_on u 0 ≡ false) (part_at ps k))
     (n : ℕ) (lab : ℕ → ℕ) (rs : ℕ → ℕ → ℕ) (Y : Layout L D n lab rs) where
   J : ℕ → ℕ → ℕ → Bool
@@ -87,13 +87,13 @@ module _ (L : ℕ) (fs : List Flat) (ps : List Part) (D : Dominoes) (stable : St
         let b : role_on u 0 ≡ false = subst (PartRole (λ u. role_on u 0 ≡ false)) e (restricted k) in
         let s = Y.starts x lx in
         iff_eq (bit (lab x) k) (some n (λ y. role_in J u x y && fill y))
-        (λ a. let w = lead (λ B. filler_in f (bit B)) (stable-delex L fs ps D stable (lab x) s.0 s.1 s.2 k g u f e a) h in
+        (λ a. let w = lead (λ B. filler_in f (bit B)) (stable-delex L incl fs ps D stable (lab x) s.0 s.1 s.2 k g u f e a) h in
         any_intro n (λ y. role_in J u x y && fill y) w.0 w.1 (and_i w.2 w.3))
         (λ a. let w = any_found n (λ y. role_in J u x y && fill y) a in
         let y = w.0 in
         let r = sym (role-at x y lx w.1 u h) ∙ and_l (role_in J u x y) (fill y) w.2 in
         let d = joined_in u b x y lx w.1 r in
-        stable-ex L fs ps D stable (lab x) (rs x y) (lab y) d k g u f e r (and_r_lem (role_in J u x y) (fill y) w.2))
+        stable-ex L incl fs ps D stable (lab x) (rs x y) (lab y) d k g u f e r (and_r_lem (role_in J u x y) (fill y) w.2))
 
     forall_label : part_at ps k ≡ forall_p g u f → bit (lab x) k ≡ every n (λ y. not (role_in J u x y) || fill y)
     unfolding fill
@@ -103,7 +103,7 @@ module _ (L : ℕ) (fs : List Flat) (ps : List Part) (D : Dominoes) (stable : St
         iff_eq (bit (lab x) k) (every n (λ y. not (role_in J u x y) || fill y))
         (λ a. all_intro n (λ y. not (role_in J u x y) || fill y) (λ y ly. imp_i (role_in J u x y) (fill y) (λ r.
         let t = sym (role-at x y lx ly u h) ∙ r in
-        stable-uni L fs ps D stable (lab x) (rs x y) (lab y) (joined_in u b x y lx ly t) k g u f e a t)))
+        stable-uni L incl fs ps D stable (lab x) (rs x y) (lab y) (joined_in u b x y lx ly t) k g u f e a t)))
         (λ a. pick h a (dec (bit (lab x) k)))
       where
         pick : RolesBelow L u → every n (λ y. not (role_in J u x y) || fill y) ≡ true
@@ -111,7 +111,7 @@ module _ (L : ℕ) (fs : List Flat) (ps : List Part) (D : Dominoes) (stable : St
         pick h a (inl t) = t
         pick h a (inr z) =
             let s = Y.starts x lx in
-            let w = lead (λ B. not (filler_in f (bit B))) (stable-deluni L fs ps D stable (lab x) s.0 s.1 s.2 k g u f e z) h in
+            let w = lead (λ B. not (filler_in f (bit B))) (stable-deluni L incl fs ps D stable (lab x) s.0 s.1 s.2 k g u f e z) h in
             let q = imp_e (role_in J u x w.0) (fill w.0) (all-at n (λ y. not (role_in J u x y) || fill y) a w.0 w.1) w.2 in
             absurd (false≢true (ap not (sym q) ∙ w.3))
 
@@ -122,8 +122,33 @@ module _ (L : ℕ) (fs : List Flat) (ps : List Part) (D : Dominoes) (stable : St
     names = λ x t l e. refl;
     existentials = λ x k g u f l e. exists_label x k g u f l e;
     universals = λ x k g u f l e. forall_label x k g u f l e;
-    kb = kb_labels n lab fs (λ x l. let s = Y.starts x l in stable-kb L fs ps D stable (lab x) s.0 s.1 s.2);
+    kb = kb_labels n lab fs (λ x l. let s = Y.starts x l in stable-kb L incl fs ps D stable (lab x) s.0 s.1 s.2);
   }
+
+  -- a role inclusion of which the first role is restricted: two individuals that no role joins meet it for that
+  included : (i : RoleInclusion) → InclusionBelow L i → ((x y : ℕ) → x < n → y < n → D (lab x) (rs x y) (lab y) ≡ true →
+      (not (role_on i.left (rs x y)) || role_on i.right (rs x y)) ≡ true) → satisfies_inclusion (labelled n lab rs) i ≡ true
+  unfolding satisfies_inclusion J
+  included i b h =
+      all_intro n _ (λ x lx. all_intro n _ (λ y ly.
+      imp_i (role_in J i.left x y) (role_in J i.right x y) (λ r.
+      let l = sym (role-at x y lx ly i.left b.left) ∙ r in
+      role-at x y lx ly i.right b.right ∙ imp_e (role_on i.left (rs x y)) (role_on i.right (rs x y))
+      (h x y lx ly (joined_in i.left b.restricted x y lx ly l)) l)))
+
+  layout_each : (l : List RoleInclusion) → All (InclusionBelow L) l → ((x y : ℕ) → x < n → y < n → D (lab x) (rs x y) (lab y) ≡ true →
+      rbox_on l (rs x y) ≡ true) → satisfies_rbox (labelled n lab rs) l ≡ true
+  unfolding satisfies_rbox rbox_on
+  layout_each [] b h = refl
+  layout_each (i ∷ l) b h =
+      and_i
+      (included i b.0 (λ x y lx ly d. and_l (not (role_on i.left (rs x y)) || role_on i.right (rs x y)) (rbox_on l (rs x y)) (h x y lx ly d)))
+      (layout_each l b.1 (λ x y lx ly d.
+      and_r_lem (not (role_on i.left (rs x y)) || role_on i.right (rs x y)) (rbox_on l (rs x y)) (h x y lx ly d)))
+
+  -- 02, N8: the role inclusions hold of every two individuals
+  pub layout_rbox : All (InclusionBelow L) incl → satisfies_rbox (labelled n lab rs) incl ≡ true
+  layout_rbox b = layout_each incl b (λ x y lx ly d. stable-rbox L incl fs ps D stable (lab x) (rs x y) (lab y) d)
 
 -- ---- the three layers
 
@@ -162,12 +187,12 @@ module _ (L m : ℕ) (a r b : ℕ → ℕ) where
   back_at k x y h (inr e) (inl f) = rw (roles_on y x f, roles_back x y e f) (sym (inverse-odd L (r (x % m)) k h))
   back_at k x y h (inr e) (inr f) = rw (roles-none x y e f, roles-none y x f e) (no_bit (2 * k) ∙ sym (no_bit (2 * k + 1)))
 
-  module _ (fs : List Flat) (ps : List Part) (D : Dominoes) (stable : Stable (view_of L fs ps) D) (E : Enumerates D m a r b) (pos : 0 < m) where
+  module _ (incl : List RoleInclusion) (fs : List Flat) (ps : List Part) (D : Dominoes) (stable : Stable (view_of L incl fs ps) D) (E : Enumerates D m a r b) (pos : 0 < m) where
     own : (x : ℕ) → D (a (x % m)) (r (x % m)) (b (x % m)) ≡ true
     own x = E.each (x % m) (mod-lt x pos)
 
     own_converse : (x : ℕ) → D (b (x % m)) (inverse L (r (x % m))) (a (x % m)) ≡ true
-    own_converse x = stable-sym L fs ps D stable (a (x % m)) (r (x % m)) (b (x % m)) (own x)
+    own_converse x = stable-sym L incl fs ps D stable (a (x % m)) (r (x % m)) (b (x % m)) (own x)
 
     -- the domino of the individual that x leads to begins with x's label
     meet_at : (x y : ℕ) → leads m a b x y ≡ true → b (x % m) ≡ a (y % m)

@@ -11,3 +11,4 @@ pub mod Stability
 pub mod Layering
 pub mod Rising
 pub mod Verdict
+pub mod WithoutInclusions

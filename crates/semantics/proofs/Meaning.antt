@@ -14,7 +14,7 @@ use Rattle.syntax.specs.Normal.{Tag, Nf, top_n, bottom_n, name_n, not_n, and_n, 
 use Rattle.syntax.specs.Flatten.{everything, nothing, name_a, Filler, atomic, fresh, Part, name_p, fresh_p, exists_p, forall_p, Flat, atom, no_part, part_at}
 use Rattle.syntax.specs.Truth.{eval}
 use Rattle.syntax.specs.Bounds.{All, Plain, FillerPlain, PartPlain}
-use Rattle.semantics.specs.Interpretations.{Interpretation, role_in, holds, satisfies, models, holds_nf}
+use Rattle.semantics.specs.Interpretations.{Interpretation, role_in, holds, satisfies, satisfies_tbox, holds_nf}
 use Rattle.semantics.specs.Views.{filler_in}
 use Rattle.semantics.specs.Projection.{plain_at, read_part, parts_in}
 use Rattle.semantics.specs.Flattens.{AtomAt, Fills, Laid, Origin, of_axiom, of_filler, Flattens}
@@ -78,15 +78,15 @@ module _ (I : Interpretation) (m : ℕ → Part) where
   filler-reads (atomic (name_a t)) ok y = plain-reads t y (m t) refl ok
   filler-reads (fresh j) ok y = plain-reads j y (m j) refl ok
 
--- The parts that the individuals of a model have are a labelling.
+-- The parts that the individuals have are a labelling, where the axioms are satisfied.
 module _ (I : Interpretation) (s : List Axiom) (ps : List Part) (fs : List Flat) (F : Flattens s ps fs) where
-  axioms_hold : (s : List Axiom) → models I s ≡ true → All (λ a. (x : ℕ) → x < I.individuals → holds_nf I (axiom_nf a) x ≡ true) s
-  unfolding models satisfies
+  axioms_hold : (s : List Axiom) → satisfies_tbox I s ≡ true → All (λ a. (x : ℕ) → x < I.individuals → holds_nf I (axiom_nf a) x ≡ true) s
+  unfolding satisfies_tbox satisfies
   axioms_hold [] k = tt
   axioms_hold (a ∷ s) k = (
     λ x l. axiom_holds I a x ∙
-        all-at I.individuals (λ x. not (holds I a.left x) || holds I a.right x) (and_l (satisfies I a) (models I s) k) x l,
-    axioms_hold s (and_r_lem (satisfies I a) (models I s) k),
+        all-at I.individuals (λ x. not (holds I a.left x) || holds I a.right x) (and_l (satisfies I a) (satisfies_tbox I s) k) x l,
+    axioms_hold s (and_r_lem (satisfies I a) (satisfies_tbox I s) k),
   )
 
   origin_holds : (h : Flat) → Origin (part_at ps) (λ c. (x : ℕ) → x < I.individuals → holds_nf I c x ≡ true) h →
@@ -96,9 +96,9 @@ module _ (I : Interpretation) (s : List Axiom) (ps : List Part) (fs : List Flat)
   origin_holds _ (of_filler {h} j g c e w) x l =
       rw (e, laid-reads I (part_at ps) (λ f. Unit) c h w x) (imp_i (holds_nf I c x) (holds_nf I c x) (λ p. p))
 
-  pub models_labelling : models I s ≡ true → Labelling I (part_at ps) fs (parts_in I (part_at ps))
+  pub tbox_labelling : satisfies_tbox I s ≡ true → Labelling I (part_at ps) fs (parts_in I (part_at ps))
   unfolding parts_in read_part
-  models_labelling k = record {
+  tbox_labelling k = record {
     names = λ x t l e. rw e;
     existentials = λ x k g u f l e. rw e (some_same I u x
         (λ y. filler_in f (λ j. plain_at I (part_at ps j) y)) (λ y. filler_in f (parts_in I (part_at ps) y))
@@ -180,19 +180,19 @@ module _ (I : Interpretation) (m : ℕ → Part) (fs : List Flat) (lab : ℕ →
   laid_gives (forall_n g u c) h w x l e =
       forall_gives g w.1 u c w.2 w.0 x l w.4 (fills_gives c w.2 (laid_gives c) w.5) (rw w.3 at e)
 
-  models-all : (s : List Axiom) → All (λ a. (h : Flat) × True h × Laid m True (axiom_nf a) h) s → models I s ≡ true
-  unfolding models satisfies True Says
-  models-all [] w = refl
-  models-all (a ∷ s) w =
+  tbox-all : (s : List Axiom) → All (λ a. (h : Flat) × True h × Laid m True (axiom_nf a) h) s → satisfies_tbox I s ≡ true
+  unfolding satisfies_tbox satisfies True Says
+  tbox-all [] w = refl
+  tbox-all (a ∷ s) w =
       and_i (all_intro I.individuals (λ x. not (holds I a.left x) || holds I a.right x)
       (λ x l. sym (axiom_holds I a x) ∙ laid_gives (axiom_nf a) w.0.0 w.0.2 x l (w.0.1 x l)))
-      (models-all s w.1)
+      (tbox-all s w.1)
 
--- An interpretation that has a labelling is a model.
-pub labelling_models : (I : Interpretation) (s : List Axiom) (ps : List Part) (fs : List Flat) → Flattens s ps fs → (lab : ℕ → ℕ → Bool) →
-    Labelling I (part_at ps) fs lab → models I s ≡ true
+-- An interpretation that has a labelling satisfies the axioms.
+pub labelling_tbox : (I : Interpretation) (s : List Axiom) (ps : List Part) (fs : List Flat) → Flattens s ps fs → (lab : ℕ → ℕ → Bool) →
+    Labelling I (part_at ps) fs lab → satisfies_tbox I s ≡ true
 unfolding True
-labelling_models I s ps fs F lab M = models-all I (part_at ps) fs lab M s (F.complete (True I (part_at ps) fs lab M) M.kb)
+labelling_tbox I s ps fs F lab M = tbox-all I (part_at ps) fs lab M s (F.complete (True I (part_at ps) fs lab M) M.kb)
 
 -- Beyond the list of parts an individual has none.
 pub parts_out : (I : Interpretation) (ps : List Part) (x k : ℕ) → length ps ≤ k → parts_in I (part_at ps) x k ≡ false

@@ -11,15 +11,16 @@ use borrow.Author.Tests.{eqb-true, eq-eqb}
 use Rattle.bitset.specs.Bits.{bit, word}
 use Rattle.bitset.proofs.Laws.{word_lt, word_ext, word_bits, bit_word, bit_past}
 use Rattle.bitset.proofs.Facts.{and_l, and_r_lem, and_i, imp_e, imp_i}
+use Rattle.elimination.specs.Sets.{every}
 use Rattle.elimination.proofs.Quantifiers.{all-at, all_intro, any_intro, any_found, not-all}
-use Rattle.syntax.specs.Concepts.{Role, named, inverse as inverse_r, not_r, and_r, or_r}
+use Rattle.syntax.specs.Concepts.{Role, named, inverse as inverse_r, not_r, and_r, or_r, RoleInclusion}
 use Rattle.syntax.specs.Flatten.{Part, name_p, fresh_p, exists_p, forall_p, Flat, part_at}
-use Rattle.syntax.specs.Truth.{eval, kb_on, role_on}
+use Rattle.syntax.specs.Truth.{eval, kb_on, role_on, rbox_on}
 use Rattle.syntax.specs.Parts.{kind_of, role_holds}
-use Rattle.syntax.specs.Bounds.{All, RolesBelow, PartRole}
-use Rattle.semantics.specs.Interpretations.{Interpretation, role_in}
+use Rattle.syntax.specs.Bounds.{All, RolesBelow, InclusionBelow, PartRole}
+use Rattle.semantics.specs.Interpretations.{Interpretation, role_in, satisfies_inclusion, satisfies_rbox}
 use Rattle.semantics.specs.Dominoes.{Dominoes, inverse}
-use Rattle.semantics.specs.Conditions.{View, kb, ex, uni, witness, delex, deluni, sym, defect, initially, sustained, Stable, InRange}
+use Rattle.semantics.specs.Conditions.{View, kb, ex, uni, rbox, witness, delex, deluni, sym, defect, initially, sustained, Stable, InRange}
 use Rattle.semantics.specs.Views.{filler_in, has_filler, view_of}
 use Rattle.semantics.specs.Projection.{role_bit, role_set, projection_of}
 use Rattle.semantics.specs.Labelling.{Labelling}
@@ -105,10 +106,10 @@ module _ (I : Interpretation) (L c : ℕ) (lab : ℕ → ℕ → Bool) where
         eqb-true _ _ (and_r_lem (eqb R (role_set L I.joined x y)) (eqb B (word c (lab y))) q),
       )
 
-pub projection_range : (I : Interpretation) (L : ℕ) (ps : List Part) (fs : List Flat) (lab : ℕ → ℕ → Bool)
-    → InRange (view_of L fs ps) (projection_of I L (length ps) lab)
+pub projection_range : (I : Interpretation) (L : ℕ) (incl : List RoleInclusion) (ps : List Part) (fs : List Flat) (lab : ℕ → ℕ → Bool)
+    → InRange (view_of L incl fs ps) (projection_of I L (length ps) lab)
 unfolding InRange
-projection_range I L ps fs lab A R B e =
+projection_range I L incl ps fs lab A R B e =
     let w = domino_from I L (length ps) lab A R B e in
     record {
       left = subst (λ (z : ℕ). z < 2 ^ length ps) (flip w.4) (word_lt (length ps) (lab w.0));
@@ -131,13 +132,15 @@ imp_fails false b e = absurd (false≢true e)
 
 -- ---- Lemma 2
 
-module _ (I : Interpretation) (L : ℕ) (ps : List Part) (fs : List Flat) (lab : ℕ → ℕ → Bool) (M : Labelling I (part_at ps) fs lab)
-    (out : (x k : ℕ) → length ps ≤ k → lab x k ≡ false) (below : (k : ℕ) → PartRole (RolesBelow L) (part_at ps k)) where
+module _ (I : Interpretation) (L : ℕ) (incl : List RoleInclusion) (ps : List Part) (fs : List Flat) (lab : ℕ → ℕ → Bool)
+    (M : Labelling I (part_at ps) fs lab) (out : (x k : ℕ) → length ps ≤ k → lab x k ≡ false)
+    (below : (k : ℕ) → PartRole (RolesBelow L) (part_at ps k)) (bounded : All (InclusionBelow L) incl)
+    (includes_all : satisfies_rbox I incl ≡ true) where
   abbrev n : ℕ
   n = I.individuals
 
   abbrev v : View
-  v = view_of L fs ps
+  v = view_of L incl fs ps
 
   unfoldable D : Dominoes
   D = projection_of I L (length ps) lab
@@ -164,6 +167,25 @@ module _ (I : Interpretation) (L : ℕ) (ps : List Part) (fs : List Flat) (lab :
   role_on_lem : (x y : ℕ) (u : Role) → RolesBelow L u → role_on u (roles x y) ≡ role_in I.joined u x y
   unfolding roles
   role_on_lem x y u h = role_in_lem I.joined x y L u h
+
+  -- the role inclusions hold between two individuals, so on their role set
+  rbox_on_lem : (l : List RoleInclusion) → All (InclusionBelow L) l → satisfies_rbox I l ≡ true → (x y : ℕ) → x < n → y < n →
+      rbox_on l (roles x y) ≡ true
+  unfolding rbox_on satisfies_rbox satisfies_inclusion
+  rbox_on_lem [] b h x y lx ly = refl
+  rbox_on_lem (i ∷ l) b h x y lx ly =
+      and_i (rw (role_on_lem x y i.left b.0.left, role_on_lem x y i.right b.0.right) holds) (rbox_on_lem l b.1 rest x y lx ly)
+    where
+      here : satisfies_inclusion I i ≡ true
+      here = and_l (satisfies_inclusion I i) (satisfies_rbox I l) h
+
+      rest : satisfies_rbox I l ≡ true
+      rest = and_r_lem (satisfies_inclusion I i) (satisfies_rbox I l) h
+
+      holds : (not (role_in I.joined i.left x y) || role_in I.joined i.right x y) ≡ true
+      holds =
+          all-at n (λ z. not (role_in I.joined i.left x z) || role_in I.joined i.right x z)
+          (all-at n (λ w. every n (λ z. not (role_in I.joined i.left w z) || role_in I.joined i.right w z)) here x lx) y ly
 
   -- what is asked of part k, by what it is
   module _ (x y k : ℕ) (lx : x < n) (ly : y < n) where
@@ -235,11 +257,12 @@ module _ (I : Interpretation) (L : ℕ) (ps : List Part) (fs : List Flat) (lab :
 
   module _ (x y : ℕ) (lx : x < n) (ly : y < n) where
     at_first : initially v (label x) (roles x y) (label y) ≡ true
-    unfolding initially kb ex uni
+    unfolding initially kb ex uni rbox
     at_first =
         and_i (kb_on_lem fs x lx M.kb)
         (and_i (all_intro (length ps) _ (λ k l. ex-at x y k lx ly (part_at ps k) refl (below k)))
-        (all_intro (length ps) _ (λ k l. uni-at x y k lx ly (part_at ps k) refl (below k))))
+        (and_i (all_intro (length ps) _ (λ k l. uni-at x y k lx ly (part_at ps k) refl (below k)))
+        (rbox_on_lem incl bounded includes_all x y lx ly)))
 
     converse_in : D (label y) (inverse L (roles x y)) (label x) ≡ true
     unfolding D label roles

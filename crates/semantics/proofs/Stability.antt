@@ -11,15 +11,15 @@ use lib.Dec.{eqb}
 use Rattle.bitset.specs.Bits.{bit}
 use Rattle.bitset.proofs.Facts.{and_l, and_r_lem, and_i, imp_e, iff_eq, dec}
 use Rattle.elimination.proofs.Quantifiers.{all-at}
-use Rattle.syntax.specs.Concepts.{Role}
+use Rattle.syntax.specs.Concepts.{Role, RoleInclusion}
 use Rattle.syntax.specs.Normal.{Tag}
 use Rattle.syntax.specs.Flatten.{Filler, Part, name_p, fresh_p, exists_p, forall_p, Flat, part_at}
-use Rattle.syntax.specs.Truth.{kb_on, role_on}
+use Rattle.syntax.specs.Truth.{kb_on, role_on, rbox_on}
 use Rattle.syntax.specs.Parts.{kind_of, role_holds}
 use Rattle.semantics.specs.Dominoes.{Dominoes, inverse}
-use Rattle.semantics.specs.Conditions.{kb, ex, uni, witness, delex, deluni, sym as converse, initially, sustained, Stable}
+use Rattle.semantics.specs.Conditions.{kb, ex, uni, rbox, witness, delex, deluni, sym as converse, sustained, Stable}
 use Rattle.semantics.specs.Views.{filler_in, has_filler, view_of}
-use Rattle.semantics.proofs.Defects.{defect-none, witness_found}
+use Rattle.semantics.proofs.Defects.{defect-none, initially_each, witness_found}
 use Rattle.semantics.proofs.Canonical.{stable-converse}
 
 -- the restrictions, told apart from what stands beyond the list of parts
@@ -40,25 +40,22 @@ restriction_in ps k p e c = pick (dec_le (suc k) (length ps))
 abbrev pub Witness : Dominoes → ℕ → Role → (ℕ → Bool) → Type 0
 Witness D A u test = (R : ℕ) × (B : ℕ) × (D A R B ≡ true) × (role_on u R ≡ true) × (test B ≡ true)
 
-module _ (L : ℕ) (fs : List Flat) (ps : List Part) (D : Dominoes) (stable : Stable (view_of L fs ps) D) where
+module _ (L : ℕ) (incl : List RoleInclusion) (fs : List Flat) (ps : List Part) (D : Dominoes) (stable : Stable (view_of L incl fs ps) D) where
   found : (A k : ℕ) (test : ℕ → Bool) (u : Role) → ((R : ℕ) → role_holds (part_at ps k) R ≡ role_on u R)
-      → witness (view_of L fs ps) D A k test ≡ true → Witness D A u test
+      → witness (view_of L incl fs ps) D A k test ≡ true → Witness D A u test
   found A k test u same e =
-      let w = witness_found (view_of L fs ps) D A k test e in (w.0, w.1, w.6, sym (same w.0) ∙ w.4, w.5)
+      let w = witness_found (view_of L incl fs ps) D A k test e in (w.0, w.1, w.6, sym (same w.0) ∙ w.4, w.5)
 
   module _ (A R B : ℕ) (d : D A R B ≡ true) where
-    first : (kb (view_of L fs ps) A ≡ true) × (ex (view_of L fs ps) A R B ≡ true) × (uni (view_of L fs ps) A R B ≡ true)
-    unfolding Stable initially
-    first =
-        let v = view_of L fs ps in
-        let o = (defect-none v D A R B (stable A R B d)).0 in
-        let r = and_r_lem (kb v A) (ex v A R B && uni v A R B) o in
-        (and_l (kb v A) (ex v A R B && uni v A R B) o, and_l (ex v A R B) (uni v A R B) r, and_r_lem (ex v A R B) (uni v A R B) r)
+    first : (kb (view_of L incl fs ps) A ≡ true) × (ex (view_of L incl fs ps) A R B ≡ true) × (uni (view_of L incl fs ps) A R B ≡ true)
+        × (rbox (view_of L incl fs ps) R ≡ true)
+    unfolding Stable
+    first = let v = view_of L incl fs ps in initially_each v A R B (defect-none v D A R B (stable A R B d)).0
 
-    later : (delex (view_of L fs ps) D A ≡ true) × (deluni (view_of L fs ps) D A ≡ true)
+    later : (delex (view_of L incl fs ps) D A ≡ true) × (deluni (view_of L incl fs ps) D A ≡ true)
     unfolding Stable sustained
     later =
-        let v = view_of L fs ps in
+        let v = view_of L incl fs ps in
         let o = (defect-none v D A R B (stable A R B d)).1 in
         let r = and_r_lem (delex v D A) (deluni v D A && converse v D A R B) o in
         (and_l (delex v D A) (deluni v D A && converse v D A R B) o, and_l (deluni v D A) (converse v D A R B) r)
@@ -66,9 +63,12 @@ module _ (L : ℕ) (fs : List Flat) (ps : List Part) (D : Dominoes) (stable : St
     pub stable-kb : kb_on fs A ≡ true
     stable-kb = unfold kb in first.0
 
+    pub stable-rbox : rbox_on incl R ≡ true
+    stable-rbox = unfold rbox in first.3
+
     -- the converse of a domino of the set is in it
     pub stable-sym : D B (inverse L R) A ≡ true
-    stable-sym = stable-converse (view_of L fs ps) D stable A R B d
+    stable-sym = stable-converse (view_of L incl fs ps) D stable A R B d
 
     module _ (k : ℕ) (g : Tag) (u : Role) (f : Filler) where
       pub stable-ex : part_at ps k ≡ exists_p g u f → role_on u R ≡ true → filler_in f (bit B) ≡ true → bit A k ≡ true
@@ -89,7 +89,7 @@ module _ (L : ℕ) (fs : List Flat) (ps : List Part) (D : Dominoes) (stable : St
       pub stable-delex : part_at ps k ≡ exists_p g u f → bit A k ≡ true → Witness D A u (λ B. filler_in f (bit B))
       unfolding delex kind_of role_holds has_filler
       stable-delex e h =
-          let v = view_of L fs ps in
+          let v = view_of L incl fs ps in
           let test : ℕ → Bool = λ k. eqb (kind_of (part_at ps k)) 2 && bit A k in
           let wit : ℕ → Bool = λ k. witness v D A k (has_filler (part_at ps k)) in
           let a = all-at (length ps) (λ k. not (test k) || wit k) later.0 k (restriction_in ps k (exists_p g u f) e tt) in
@@ -99,7 +99,7 @@ module _ (L : ℕ) (fs : List Flat) (ps : List Part) (D : Dominoes) (stable : St
       pub stable-deluni : part_at ps k ≡ forall_p g u f → bit A k ≡ false → Witness D A u (λ B. not (filler_in f (bit B)))
       unfolding deluni kind_of role_holds has_filler
       stable-deluni e h =
-          let v = view_of L fs ps in
+          let v = view_of L incl fs ps in
           let test : ℕ → Bool = λ k. eqb (kind_of (part_at ps k)) 3 && not (bit A k) in
           let wit : ℕ → Bool = λ k. witness v D A k (λ B. not (has_filler (part_at ps k) B)) in
           let a = all-at (length ps) (λ k. not (test k) || wit k) later.1 k (restriction_in ps k (forall_p g u f) e tt) in

@@ -15,7 +15,7 @@ use Rattle.semantics.proofs.Numbers.{number_lt, left-number, roles-number, right
 use Rattle.semantics.proofs.Defects.{sustained_same, defective_monotone}
 use Rattle.semantics.proofs.Canonical.{dominoes_of, of_number}
 
--- in a part of the initial set, conditions 1 to 3 need not be asked again
+-- in a part of the initial set, its conditions need not be asked again
 asked_once : (d i s : Bool) → (T d → T i) → (d && not (not i || not s)) ≡ (d && s)
 asked_once false i s f = refl
 asked_once true true true f = refl

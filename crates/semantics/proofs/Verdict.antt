@@ -13,14 +13,14 @@ use lib.ListN.{length, get_or}
 use borrow.Author.Tests.{eqb-true}
 use Rattle.bitset.specs.Bits.{bit, word}
 use Rattle.bitset.proofs.Laws.{word_ext, word_bits, bit_past}
-use Rattle.bitset.proofs.Facts.{iff_eq, is_false, and_l}
-use Rattle.syntax.specs.Concepts.{Axiom}
+use Rattle.bitset.proofs.Facts.{iff_eq, is_false, and_l, and_r_lem, and_i}
+use Rattle.syntax.specs.Concepts.{RoleInclusion}
 use Rattle.syntax.specs.Flatten.{Part, Flat, separate, Flattening, flatten_by, part_at}
 use Rattle.syntax.specs.Truth.{role_on}
-use Rattle.syntax.specs.Bounds.{AxiomRoles, RolesBelow, PartRole}
+use Rattle.syntax.specs.Bounds.{All, AxiomRoles, RolesBelow, InclusionBelow, PartRole}
 use Rattle.syntax.specs.Reading.{Kb, kb, flats_of, parts_of, read_kb}
-use Rattle.syntax.proofs.Promised.{kb_bounded, kb_restricted}
-use Rattle.semantics.specs.Interpretations.{Interpretation, models, Satisfiable}
+use Rattle.syntax.proofs.Promised.{kb_bounded, kb_restricted, kb_inclusions}
+use Rattle.semantics.specs.Interpretations.{Interpretation, satisfies_tbox, satisfies_rbox, models, Satisfiable}
 use Rattle.semantics.specs.Dominoes.{Dominoes, Met, total, left_of, roles_of, right_of_lem, unnumbered}
 use Rattle.semantics.specs.Conditions.{InRange, LargestStable, canon_dominoes}
 use Rattle.semantics.specs.Views.{view_of, kb_view, separate_view}
@@ -29,48 +29,70 @@ use Rattle.semantics.specs.Flattens.{Flattens}
 use Rattle.semantics.specs.Labelling.{Labelling}
 use Rattle.semantics.specs.Layers.{label_at, leads, roles_at, layered, Enumerates, rising}
 use Rattle.semantics.proofs.Flattening.{flatten_flattens, separate_faithful, judged_flattens}
-use Rattle.semantics.proofs.Meaning.{models_labelling, labelling_models, parts_out}
+use Rattle.semantics.proofs.Meaning.{tbox_labelling, labelling_tbox, parts_out}
 use Rattle.semantics.proofs.Canonical.{canon-largest}
 use Rattle.semantics.proofs.Projecting.{role_even, role-odd, domino_in, projection_range, projection-stable}
 use Rattle.semantics.proofs.Stability.{stable-sym}
-use Rattle.semantics.proofs.Layering.{Layout, layout_labelling, layers_layout, next-at, roles_on}
+use Rattle.semantics.proofs.Layering.{Layout, layout_labelling, layout_rbox, layers_layout, next-at, roles_on}
 use Rattle.semantics.proofs.Rising.{rising_enumerates}
 
--- axioms flattened somehow, their roles below L and each false on no roles, and the largest stable set
-module _ (s : List Axiom) (L : ℕ) (ps : List Part) (fs : List Flat) (F : Flattens s ps fs)
-    (below : AxiomRoles (RolesBelow L) s) (restricted : AxiomRoles (λ u. role_on u 0 ≡ false) s)
-    (C : Dominoes) (best : LargestStable (view_of L fs ps) C) where
+-- of a knowledge base: the roles of its axioms are below the count and each false on no roles, and so are those of its role
+-- inclusions, the first of each false on no roles
+pub record Bounded (k : Kb) : Type 0 where
+  pub below : AxiomRoles (RolesBelow k.roles) k.axioms
+  pub restricted : AxiomRoles (λ u. role_on u 0 ≡ false) k.axioms
+  pub inclusions : All (InclusionBelow k.roles) k.inclusions
+
+-- its axioms flattened somehow, and the largest stable set
+module _ (k : Kb) (B : Bounded k) (ps : List Part) (fs : List Flat) (F : Flattens k.axioms ps fs)
+    (C : Dominoes) (best : LargestStable (view_of k.roles k.inclusions fs ps) C) where
+  abbrev L : ℕ
+  L = k.roles
+
+  abbrev incl : List RoleInclusion
+  incl = k.inclusions
+
   low : (k : ℕ) → PartRole (RolesBelow L) (part_at ps k)
-  low = F.roles (RolesBelow L) below
+  low = F.roles (RolesBelow L) B.below
 
   tight : (k : ℕ) → PartRole (λ u. role_on u 0 ≡ false) (part_at ps k)
-  tight = F.roles (λ u. role_on u 0 ≡ false) restricted
+  tight = F.roles (λ u. role_on u 0 ≡ false) B.restricted
 
-  -- the dominoes of labels that fit are in the set
+  -- the dominoes of labels that fit are in the set, if the role inclusions hold
   pub labelling_in : (I : Interpretation) (lab : ℕ → ℕ → Bool) → Labelling I (part_at ps) fs lab → ((x k : ℕ) → length ps ≤ k → lab x k ≡ false)
-      → (A R B : ℕ) → projection_of I L (length ps) lab A R B ≡ true → C A R B ≡ true
-  labelling_in I lab M out =
-      best.most (projection_of I L (length ps) lab) (projection_range I L ps fs lab) (projection-stable I L ps fs lab M out low)
+      → satisfies_rbox I incl ≡ true → (A R B : ℕ) → projection_of I L (length ps) lab A R B ≡ true → C A R B ≡ true
+  labelling_in I lab M out e =
+      best.most (projection_of I L (length ps) lab) (projection_range I L incl ps fs lab)
+      (projection-stable I L incl ps fs lab M out low B.inclusions e)
 
   -- every model's dominoes are in the set
-  pub model_in : (I : Interpretation) → models I s ≡ true
+  pub model_in : (I : Interpretation) → models I k ≡ true
       → (A R B : ℕ) → projection_of I L (length ps) (parts_in I (part_at ps)) A R B ≡ true → C A R B ≡ true
-  model_in I e = labelling_in I (parts_in I (part_at ps)) (models_labelling I s ps fs F e) (parts_out I ps)
+  unfolding models
+  model_in I e =
+      labelling_in I (parts_in I (part_at ps))
+      (tbox_labelling I k.axioms ps fs F (and_l (satisfies_tbox I k.axioms) (satisfies_rbox I incl) e)) (parts_out I ps)
+      (and_r_lem (satisfies_tbox I k.axioms) (satisfies_rbox I incl) e)
 
   -- a model of at least one individual has a domino
-  pub satisfiable_met : (I : Interpretation) → 0 < I.individuals → models I s ≡ true → Met C
+  pub satisfiable_met : (I : Interpretation) → 0 < I.individuals → models I k ≡ true → Met C
   satisfiable_met I pos e = (_, _, _, model_in I e _ _ _ (domino_in I L (length ps) (parts_in I (part_at ps)) 0 0 pos pos))
 
   -- the layered interpretation of the set
   module _ (m : ℕ) (a r b : ℕ → ℕ) (E : Enumerates C m a r b) (pos : 0 < m) where
     Y : Layout L C (3 * m) (label_at m b) (roles_at L m a r b)
-    Y = layers_layout L m a r b fs ps C best.stable E pos
+    Y = layers_layout L m a r b incl fs ps C best.stable E pos
 
     layered_labelling : Labelling (layered L m a r b) (part_at ps) fs (λ x k. bit (label_at m b x) k)
-    layered_labelling = layout_labelling L fs ps C best.stable low tight (3 * m) (label_at m b) (roles_at L m a r b) Y
+    layered_labelling = layout_labelling L incl fs ps C best.stable low tight (3 * m) (label_at m b) (roles_at L m a r b) Y
 
-    pub layered-models : models (layered L m a r b) s ≡ true
-    layered-models = labelling_models (layered L m a r b) s ps fs F (λ x k. bit (label_at m b x) k) layered_labelling
+    layered_rbox : satisfies_rbox (layered L m a r b) incl ≡ true
+    layered_rbox = layout_rbox L incl fs ps C best.stable low tight (3 * m) (label_at m b) (roles_at L m a r b) Y B.inclusions
+
+    pub layered-models : models (layered L m a r b) k ≡ true
+    unfolding models
+    layered-models =
+        and_i (labelling_tbox (layered L m a r b) k.axioms ps fs F (λ x k. bit (label_at m b x) k) layered_labelling) layered_rbox
 
     label_lt : (x : ℕ) → label_at m b x < 2 ^ length ps
     unfolding label_at InRange
@@ -119,10 +141,10 @@ module _ (s : List Axiom) (L : ℕ) (ps : List Part) (fs : List Flat) (F : Flatt
     unfolding label_at InRange
     layered-has A R B e =
         let w = E.all A R B e in
-        let v = E.all B _ A (stable-sym L fs ps C best.stable A R B e) in
+        let v = E.all B _ A (stable-sym L incl fs ps C best.stable A R B e) in
         let x : ℕ = v.0 in
         let ex : b (x % m) ≡ A = ap b (mod-eq_of_lt v.1) ∙ v.4 in
-        let n = next-at L m a r b fs ps C best.stable E pos x w.0 w.1 (ex ∙ sym w.2) in
+        let n = next-at L m a r b incl fs ps C best.stable E pos x w.0 w.1 (ex ∙ sym w.2) in
         let y : ℕ = n.0 in
         pair_in x y (omega (arith, v.1)) n.1 A R B ex (roles_on L m a r b x y n.2 ∙ ap r n.3 ∙ w.3) (ap b n.3 ∙ w.4)
         (best.inside A R B e).roles
@@ -131,7 +153,7 @@ module _ (s : List Axiom) (L : ℕ) (ps : List Part) (fs : List Flat) (F : Flatt
     pub layered-projection : (A R B : ℕ) → projection_of (layered L m a r b) L (length ps) (λ x k. bit (label_at m b x) k) A R B ≡ C A R B
     layered-projection A R B =
         iff_eq (projection_of (layered L m a r b) L (length ps) (λ x k. bit (label_at m b x) k) A R B) (C A R B)
-        (labelling_in (layered L m a r b) (λ x k. bit (label_at m b x) k) layered_labelling label_out A R B)
+        (labelling_in (layered L m a r b) (λ x k. bit (label_at m b x) k) layered_labelling label_out layered_rbox A R B)
         (layered-has A R B)
 
     -- two individuals of one layer are joined by no role
@@ -148,7 +170,7 @@ module _ (s : List Axiom) (L : ℕ) (ps : List Part) (fs : List Flat) (F : Flatt
   risen : List ℕ
   risen = rising (unnumbered (length ps) L C) (total (length ps) L)
 
-  pub met_satisfiable : Met C → Satisfiable s
+  pub met_satisfiable : Met C → Satisfiable k
   unfolding risen
   met_satisfiable w =
       let c : ℕ = length ps in
@@ -156,54 +178,57 @@ module _ (s : List Axiom) (L : ℕ) (ps : List Part) (fs : List Flat) (F : Flatt
       let a : ℕ → ℕ = λ i. left_of c L (get_or risen i 0) in
       let r : ℕ → ℕ = λ i. roles_of c L (get_or risen i 0) in
       let b : ℕ → ℕ = λ i. right_of_lem c (get_or risen i 0) in
-      let E : Enumerates C m a r b = rising_enumerates (view_of L fs ps) C best.inside (unnumbered c L C) (λ n h. refl) in
+      let E : Enumerates C m a r b = rising_enumerates (view_of L incl fs ps) C best.inside (unnumbered c L C) (λ n h. refl) in
       let pos : 0 < m = omega (arith, (E.all w.0 w.1 w.2 w.3).1) in
       (layered L m a r b, omega arith, layered-models m a r b E pos)
 
 -- 002, Theorem 1
-pub theorem : (s : List Axiom) (L : ℕ) (ps : List Part) (fs : List Flat) → Flattens s ps fs
-    → AxiomRoles (RolesBelow L) s → AxiomRoles (λ u. role_on u 0 ≡ false) s
-    → (C : Dominoes) → LargestStable (view_of L fs ps) C → Met C ↔ Satisfiable s
-theorem s L ps fs F below restricted C best = (
-  met_satisfiable s L ps fs F below restricted C best,
-  λ w. satisfiable_met s L ps fs F below restricted C best w.0 w.1 w.2,
+pub theorem : (k : Kb) → Bounded k → (ps : List Part) (fs : List Flat) → Flattens k.axioms ps fs
+    → (C : Dominoes) → LargestStable (view_of k.roles k.inclusions fs ps) C → Met C ↔ Satisfiable k
+theorem k B ps fs F C best = (
+  met_satisfiable k B ps fs F C best,
+  λ w. satisfiable_met k B ps fs F C best w.0 w.1 w.2,
 )
 
 -- 02, N4: two flattenings of one knowledge base have one verdict
-pub same_verdict : (s : List Axiom) (L : ℕ) → AxiomRoles (RolesBelow L) s → AxiomRoles (λ u. role_on u 0 ≡ false) s
-    → (ps ps' : List Part) (fs fs' : List Flat) → Flattens s ps fs → Flattens s ps' fs'
-    → (C C' : Dominoes) → LargestStable (view_of L fs ps) C → LargestStable (view_of L fs' ps') C' → Met C ↔ Met C'
-same_verdict s L below restricted ps ps' fs fs' F F' C C' best best' =
-    let t = theorem s L ps fs F below restricted C best in
-    let t' = theorem s L ps' fs' F' below restricted C' best' in
+pub same_verdict : (k : Kb) → Bounded k → (ps ps' : List Part) (fs fs' : List Flat) → Flattens k.axioms ps fs → Flattens k.axioms ps' fs'
+    → (C C' : Dominoes) → LargestStable (view_of k.roles k.inclusions fs ps) C → LargestStable (view_of k.roles k.inclusions fs' ps') C'
+    → Met C ↔ Met C'
+same_verdict k B ps ps' fs fs' F F' C C' best best' =
+    let t = theorem k B ps fs F C best in
+    let t' = theorem k B ps' fs' F' C' best' in
     (λ w. t'.1 (t.0 w), λ w. t.1 (t'.0 w))
 
 -- ---- of a sheet that is read
 
 module _ (limit : ℕ) (sheet : List ℕ) (k : Kb) (e : read_kb limit sheet ≡ kb k) where
+  pub bounded : Bounded k
+  bounded =
+      record {
+        below = (kb_bounded limit sheet e).roles;
+        restricted = kb_restricted limit sheet e;
+        inclusions = kb_inclusions limit sheet e;
+      }
+
   flat : Flattens k.axioms (parts_of k) (flats_of k)
   flat = judged_flattens k.names k.axioms (kb_bounded limit sheet e).names
 
   -- the canonical domino set is not empty exactly if the knowledge base has a finite model
-  pub sheet-verdict : Met (canon_dominoes (kb_view k)) ↔ Satisfiable k.axioms
-  sheet-verdict =
-      theorem k.axioms k.roles (parts_of k) (flats_of k) flat (kb_bounded limit sheet e).roles (kb_restricted limit sheet e)
-      (canon_dominoes (kb_view k)) (canon-largest (kb_view k))
+  pub sheet-verdict : Met (canon_dominoes (kb_view k)) ↔ Satisfiable k
+  sheet-verdict = theorem k bounded (parts_of k) (flats_of k) flat (canon_dominoes (kb_view k)) (canon-largest (kb_view k))
 
   -- and each model's dominoes are in it
-  pub model_dominoes : (I : Interpretation) → models I k.axioms ≡ true
+  pub model_dominoes : (I : Interpretation) → models I k ≡ true
       → (A R B : ℕ) → projection I k A R B ≡ true → canon_dominoes (kb_view k) A R B ≡ true
   unfolding projection
   model_dominoes I h =
-      model_in k.axioms k.roles (parts_of k) (flats_of k) flat (kb_bounded limit sheet e).roles (kb_restricted limit sheet e)
-      (canon_dominoes (kb_view k)) (canon-largest (kb_view k)) I h
+      model_in k bounded (parts_of k) (flats_of k) flat (canon_dominoes (kb_view k)) (canon-largest (kb_view k)) I h
 
   -- 02, N4: sharing changes no verdict. The canonical set is there for any number of parts, so without sharing there may be
   -- more than the limit.
   pub sharing-verdict : Met (canon_dominoes (kb_view k)) ↔ Met (canon_dominoes (separate_view k))
   sharing-verdict =
       let F : Flattening = flatten_by separate k.names k.axioms in
-      same_verdict k.axioms k.roles (kb_bounded limit sheet e).roles (kb_restricted limit sheet e)
-      (parts_of k) F.parts (flats_of k) F.axioms flat
+      same_verdict k bounded (parts_of k) F.parts (flats_of k) F.axioms flat
       (flatten_flattens separate separate_faithful k.names k.axioms (kb_bounded limit sheet e).names)
       (canon_dominoes (kb_view k)) (canon_dominoes (separate_view k)) (canon-largest (kb_view k)) (canon-largest (separate_view k))

@@ -1,4 +1,4 @@
--- The six conditions (01, "Pairings and the six conditions"; 002, Definition 5).
+-- The conditions on dominoes (01, "Pairings and the six conditions"; 02, N8, condition 7; 002, Definition 5).
 use Rattle.std.specs.Prelude.{ℕ, zero, suc, ◌*◌, ◌^◌, ◌≡◌, Bool, true, false, not, ◌&&◌, ◌||◌, cond, List, [], ◌∷◌, ◌++◌, eqb, ltb}
 use Rattle.bitset.specs.Bits.{Set, bit, words_for_lem}
 use Rattle.elimination.specs.Sets.{every, some}
@@ -7,7 +7,8 @@ use Rattle.syntax.specs.Bounds.{All}
 use Rattle.semantics.specs.Dominoes.{Dominoes, Domino, total, left_of, roles_of, right_of_lem, inverse, numbered}
 
 -- what the conditions look at: the number of parts and of roles; of part k its kind (2 existential, 3 universal), whether its
--- role holds on the role set R, and whether its filler is in the label B; and the labels on which every flattened axiom is true
+-- role holds on the role set R, and whether its filler is in the label B; the labels on which every flattened axiom is true; and the
+-- role sets that are closed: on which every role inclusion is true
 pub record View : Type 0 where
   pub parts : ℕ
   pub roles : ℕ
@@ -15,10 +16,11 @@ pub record View : Type 0 where
   pub holds : ℕ → ℕ → Bool
   pub has : ℕ → ℕ → Bool
   pub good : ℕ → Bool
+  pub closed : ℕ → Bool
 
--- 01's order
+-- 01's order, with 02, N8: 7 is "checked after 3 and before 4"
 abbrev pub order : List ℕ
-order = 1 ∷ 2 ∷ 3 ∷ 4 ∷ 5 ∷ 6 ∷ []
+order = 1 ∷ 2 ∷ 3 ∷ 7 ∷ 4 ∷ 5 ∷ 6 ∷ []
 
 -- the first number of a list whose test fails, 0 if none does
 unfoldable pub first_failing : (ℕ → Bool) → List ℕ → ℕ
@@ -46,6 +48,10 @@ module _ (v : View) where
   unfoldable pub uni : ℕ → ℕ → ℕ → Bool
   uni A R B = every v.parts (λ k. not (eqb (v.kind k) 3 && (bit A k && v.holds k R)) || v.has k B)
 
+  -- 7, rbox: "if the first holds on R, so does the second" (02, N8), of each role inclusion
+  unfoldable pub rbox : ℕ → Bool
+  rbox R = v.closed R
+
   -- "a pairing in the set with the same A, whose links satisfy the mark's link" and whose right label passes a test; 01 calls
   -- this a partner
   unfoldable pub witness : Dominoes → ℕ → ℕ → (ℕ → Bool) → Bool
@@ -63,26 +69,26 @@ module _ (v : View) where
   unfoldable pub sym : Dominoes → ℕ → ℕ → ℕ → Bool
   sym D A R B = D B (inverse v.roles R) A
 
-  -- condition k, 1 to 6; other numbers ask nothing
+  -- condition k, 1 to 7; other numbers ask nothing
   unfoldable pub condition : Dominoes → ℕ → ℕ → ℕ → ℕ → Bool
   condition D A R B k =
       cond (eqb k 1) (kb A) (cond (eqb k 2) (ex A R B) (cond (eqb k 3) (uni A R B)
-      (cond (eqb k 4) (delex D A) (cond (eqb k 5) (deluni D A) (cond (eqb k 6) (sym D A R B) true)))))
+      (cond (eqb k 4) (delex D A) (cond (eqb k 5) (deluni D A) (cond (eqb k 6) (sym D A R B) (cond (eqb k 7) (rbox R) true))))))
 
   -- the number of the first condition that fails, 0 for none: "A pairing is loose in a set if it fails one of"; 02, N2: "the
-  -- number, 1 to 6, of the first condition that fails in 01's order"
+  -- number, 1 to 6, of the first condition that fails in 01's order"; N8: "N2's numbers gain 7"
   unfoldable pub defect : Dominoes → ℕ → ℕ → ℕ → ℕ
   defect D A R B = first_failing (condition D A R B) order
 
-  -- conditions 1 to 3: "The opening set is all pairings that meet 1 to 3."
+  -- conditions 1 to 3, "The opening set is all pairings that meet 1 to 3.", and 7, "tested last among those of opening"
   unfoldable pub initially : ℕ → ℕ → ℕ → Bool
-  initially A R B = kb A && (ex A R B && uni A R B)
+  initially A R B = kb A && (ex A R B && (uni A R B && rbox R))
 
   -- conditions 4 to 6, which depend on the set
   unfoldable pub sustained : Dominoes → ℕ → ℕ → ℕ → Bool
   sustained D A R B = delex D A && (deluni D A && sym D A R B)
 
-  -- 002, Definition 5's 𝔻ᵢ: "𝔻₀ consists of all dominoes ⟨A, R, B⟩ satisfying" kb, ex and uni; "Given a domino set 𝔻ᵢ, the set 𝔻ᵢ₊₁
+  -- 002, Definition 5's 𝔻ᵢ: "𝔻₀ consists of all dominoes ⟨A, R, B⟩ satisfying" kb, ex and uni, and here rbox; "Given a domino set 𝔻ᵢ, the set 𝔻ᵢ₊₁
   -- consists of all dominoes ⟨A, R, B⟩ ∈ 𝔻ᵢ satisfying" delex, deluni and sym, of 𝔻ᵢ
   unfoldable pub stage : ℕ → Dominoes
   stage zero = initially

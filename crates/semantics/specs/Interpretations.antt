@@ -1,8 +1,9 @@
 -- Finite interpretations, what holds of an individual (002, Table 1), and models of a knowledge base as written.
 use Rattle.std.specs.Prelude.{ℕ, ◌<◌, ◌≡◌, Bool, true, false, not, ◌&&◌, ◌||◌, List, [], ◌∷◌}
 use Rattle.elimination.specs.Sets.{every, some}
-use Rattle.syntax.specs.Concepts.{Role, named, inverse, not_r, and_r, or_r, Concept, top_c, bottom_c, name_c, not_c, and_c, or_c, exists_c, forall_c, Axiom}
+use Rattle.syntax.specs.Concepts.{Role, named, inverse, not_r, and_r, or_r, Concept, top_c, bottom_c, name_c, not_c, and_c, or_c, exists_c, forall_c, Axiom, RoleInclusion}
 use Rattle.syntax.specs.Normal.{Nf, top_n, bottom_n, name_n, not_n, and_n, or_n, exists_n, forall_n}
+use Rattle.syntax.specs.Reading.{Kb}
 
 -- 01 calls this a plant: "a finite list of items, each with its traits, and for each link the ordered pairs it joins".
 -- `has x t`: individual x has the name t; `joined k x y`: role k joins x to y
@@ -30,17 +31,30 @@ holds I (or_c c d) x = holds I c x || holds I d x
 holds I (exists_c r f u c) x = some I.individuals (λ y. role_in I.joined u x y && holds I c y)
 holds I (forall_c r f u c) x = every I.individuals (λ y. not (role_in I.joined u x y) || holds I c y)
 
--- "The plant keeps the sheet if each rule as written holds of every item." 002: a model of the knowledge base
+-- "The plant keeps the sheet if each rule as written holds of every item."
 unfoldable pub satisfies : Interpretation → Axiom → Bool
 satisfies I a = every I.individuals (λ x. not (holds I a.left x) || holds I a.right x)
 
-unfoldable pub models : Interpretation → List Axiom → Bool
-models I [] = true
-models I (a ∷ s) = satisfies I a && models I s
+unfoldable pub satisfies_tbox : Interpretation → List Axiom → Bool
+satisfies_tbox I [] = true
+satisfies_tbox I (a ∷ s) = satisfies I a && satisfies_tbox I s
+
+-- 02, N8: "wherever the first holds between two items, so does the second", of every ordered pair of individuals
+unfoldable pub satisfies_inclusion : Interpretation → RoleInclusion → Bool
+satisfies_inclusion I i =
+    every I.individuals (λ x. every I.individuals (λ y. not (role_in I.joined i.left x y) || role_in I.joined i.right x y))
+
+unfoldable pub satisfies_rbox : Interpretation → List RoleInclusion → Bool
+satisfies_rbox I [] = true
+satisfies_rbox I (i ∷ l) = satisfies_inclusion I i && satisfies_rbox I l
+
+-- 002: a model of the knowledge base, "the union of a SHIQb Rbox and an according SHIQb Tbox"
+unfoldable pub models : Interpretation → Kb → Bool
+models I k = satisfies_tbox I k.axioms && satisfies_rbox I k.inclusions
 
 -- 002: a knowledge base is satisfiable. A finite interpretation of at least one individual is a model
-abbrev pub Satisfiable : List Axiom → Type 0
-Satisfiable s = (I : Interpretation) × (0 < I.individuals) × (models I s ≡ true)
+abbrev pub Satisfiable : Kb → Type 0
+Satisfiable k = (I : Interpretation) × (0 < I.individuals) × (models I k ≡ true)
 
 -- what holds of an individual, of a concept in negation normal form
 unfoldable pub holds_nf : Interpretation → Nf → ℕ → Bool

@@ -1,7 +1,7 @@
 -- What must be believed:
 --   Interpretations  finite interpretations, 002, Table 1, and models
 --   Dominoes         the numbers of dominoes, inverse role sets
---   Conditions       the six conditions over a view, their order, Definition 5's stages, the canonical set
+--   Conditions       the conditions over a view, their order, Definition 5's stages, the canonical set
 --   Views            what the conditions look at, of a knowledge base
 --   Projection       an interpretation's dominoes
 -- What proofs and statements about these definitions use:

@@ -2,7 +2,7 @@
 use Prim.Native.Nat.{ℕ, zero, suc, ◌+◌, ◌*◌, ◌≤◌, ◌<◌, max}
 use mathlib.Core.Path.{◌≡◌, refl, sym, ap, ◌∙◌}
 use mathlib.Core.Logic.{◌⊎◌, ⊎_elim}
-use mathlib.Core.Bool.{Bool, true, false, cond, ◌&&◌}
+use mathlib.Core.Bool.{Bool, true, false, not, cond, ◌&&◌}
 use mathlib.Core.List.{List, [], ◌∷◌, ◌++◌, map, map-append}
 use lib.ListN.{length, get_or, take, set, length-append, length-map, length-take, get_or-append, get_or-map, get_or-eq_default}
 use lib.Seq.{take-append-le, take_at, get_or_at, get_or-take, length-take-le, map-set_same}
@@ -13,10 +13,11 @@ use Rattle.bitset.specs.Bits.{bit}
 use Rattle.bitset.proofs.Laws.{bit_past}
 use Rattle.records.specs.Shapes.{Shape}
 use Rattle.records.specs.Entries.{Entry}
-use Rattle.records.specs.Shapes.{shape_of, is_leaf_lem, is_restriction_lem}
+use Rattle.records.specs.Shapes.{shape_of, is_leaf_lem, needs_restricted_lem}
 use Rattle.records.specs.Scan.{State, start, blank, record_at_lem, number_fault_lem, reference_fault_lem, naming, name, empty_fault_lem, body_fault, vacuous_of_lem, entry_for, names_after_lem, roles_after_lem, after, record_fault, record_after, whole, scan_sheet}
 use Rattle.syntax.specs.Concepts.{Node, as_role, no_node, role_at, node_of, nodes_of}
 use Rattle.syntax.specs.Truth.{role_on}
+use Rattle.bitset.proofs.Facts.{and_r_lem}
 use Rattle.records.proofs.KindTable.{kind_cases, vacuous_unknown}
 use Rattle.records.proofs.Faultless.{none_of_body, reference-right, body_at, record_right, scan-keeps}
 use Rattle.syntax.proofs.Trees.{node_by, node_is, node_unknown}
@@ -67,7 +68,7 @@ pub record FormedAt (es : List Entry) (r : ℕ) (e : Entry) : Type 0 where
   pub number : number_fault_lem (shape_of e.kind) e.first ≡ 0
   pub first : Finds es r (shape_of e.kind).first e.first
   pub second : Finds es r (shape_of e.kind).second e.second
-  pub restricted : is_restriction_lem (shape_of e.kind) ≡ true → (record_at_lem es e.first).vacuous ≡ false
+  pub restricted : needs_restricted_lem (shape_of e.kind) ≡ true → (record_at_lem es e.first).vacuous ≡ false
 
 pub record Formed (es : List Entry) : Type 0 where
   pub few : length es ≤ 255
@@ -102,7 +103,7 @@ reference_finds es xs x s wanted r p n = (within, sym (s r within) ∙ rw (← x
     within : r < length xs
     within = rw (← x, length-map) (reference-right es wanted r p n).0
 
-empty_restricted : (es xs : List Entry) → bare es ≡ xs → (s : Shape) (a : ℕ) → empty_fault_lem es s a ≡ 0 → is_restriction_lem s ≡ true → (record_at_lem xs a).vacuous ≡ false
+empty_restricted : (es xs : List Entry) → bare es ≡ xs → (s : Shape) (a : ℕ) → empty_fault_lem es s a ≡ 0 → needs_restricted_lem s ≡ true → (record_at_lem xs a).vacuous ≡ false
 unfolding empty_fault_lem
 empty_restricted es xs x s a p q = rw (← x, bare_at es a) (go (record_at_lem es a).vacuous (rw q at p))
   where
@@ -238,15 +239,10 @@ read-good sheet st e = let w = scan-keeps Good sheet (λ room st l. record_good 
 before_at : (es : List Entry) (r i : ℕ) → i < r → record_at_lem (take r (bare es)) i ≡ unnamed (record_at_lem es i)
 before_at es r i h = get_or-take r (bare es) i blank h ∙ bare_at es i
 
--- a restriction's first reference is a role
-pub restriction-role : (s : Shape) → is_restriction_lem s ≡ true → s.first ≡ 2
-unfolding is_restriction_lem
-restriction-role s = go (eqb s.sort 1) (eqb s.first 2) refl
-  where
-    go : (b c : Bool) → eqb s.first 2 ≡ c → b && c ≡ true → s.first ≡ 2
-    go true true q p = eqb-true s.first 2 q
-    go true false q p = let z : ◌≡◌ {A = ℕ} 0 1 = cc in absurd (omega arith)
-    go false c q p = let z : ◌≡◌ {A = ℕ} 0 1 = cc in absurd (omega arith)
+-- where a restricted role is needed, the first reference is a role
+pub restricted-role : (s : Shape) → needs_restricted_lem s ≡ true → s.first ≡ 2
+unfolding needs_restricted_lem
+restricted-role s p = eqb-true s.first 2 (and_r_lem (not (eqb s.sort 2)) (eqb s.first 2) p)
 
 before_finds : (es : List Entry) (r wanted to : ℕ) → Finds (take r (bare es)) r wanted to → Finds es r wanted to
 before_finds es r wanted to f n = let w = f n in (w.0, rw (before_at es r to w.0) at w.1)
@@ -260,7 +256,7 @@ before_formed es r e f =
       number = f.number;
       first = before_finds es r (shape_of e.kind).first e.first f.first;
       second = before_finds es r (shape_of e.kind).second e.second f.second;
-      restricted = λ q. rw (before_at es r e.first (f.first (λ z. omega (arith, restriction-role (shape_of e.kind) q))).0) at (f.restricted q);
+      restricted = λ q. rw (before_at es r e.first (f.first (λ z. omega (arith, restricted-role (shape_of e.kind) q))).0) at (f.restricted q);
     }
 
 -- what holds of each tree if it does of those before it
@@ -287,7 +283,7 @@ new_flag : (es : List Entry) (ns : List Node) → ((i : ℕ) → (record_at_lem 
 unfolding vacuous_of_lem node_of role_on
 new_flag es ns h n k a b =
     kind_cases (λ k. vacuous_of_lem es k a b ≡ on_none (node_of ns n k a b))
-    refl refl refl refl refl refl refl refl (sym (empty_bit (2 * a))) (sym (empty_bit (2 * a + 1))) (rw (h a)) (rw (h a, h b)) (rw (h a, h b)) refl
+    refl refl refl refl refl refl refl refl (sym (empty_bit (2 * a))) (sym (empty_bit (2 * a + 1))) (rw (h a)) (rw (h a, h b)) (rw (h a, h b)) refl refl
     k (λ u. vacuous_unknown k u es a b ∙ sym (ap on_none (node_unknown k u ns n a b)))
 
 -- past the first r stands the default
@@ -335,15 +331,16 @@ module _ (sheet : List ℕ) (st : State) (e : scan_sheet sheet ≡ whole st) whe
       new_flag (take r (bare es)) (take r (nodes_of es)) (before_flags es r h) r
       (record_at_lem es r).kind (record_at_lem es r).first (record_at_lem es r).second)
 
-  -- the role of a restriction fails on the empty role set
-  pub restriction-fails : (r : ℕ) → r < length es → is_restriction_lem (shape_of (record_at_lem es r).kind) ≡ true →
+  -- the role of a restriction, and the first of a role inclusion, fails on the empty role set
+  pub restricted-fails : (r : ℕ) → r < length es → needs_restricted_lem (shape_of (record_at_lem es r).kind) ≡ true →
       role_on (role_at (nodes_of es) (record_at_lem es r).first) 0 ≡ false
-  restriction-fails r l q =
+  restricted-fails r l q =
       let f = read_formed.each r l in
-      let i : (record_at_lem es r).first < r = (f.first (λ z. omega (arith, restriction-role (shape_of (record_at_lem es r).kind) q))).0 in
+      let i : (record_at_lem es r).first < r = (f.first (λ z. omega (arith, restricted-role (shape_of (record_at_lem es r).kind) q))).0 in
       sym (read_flags (record_at_lem es r).first (omega arith)) ∙ f.restricted q
 
-  pub read_restricted : (r : ℕ) → r < length es → ((record_at_lem es r).kind ≡ 0x07) ⊎ ((record_at_lem es r).kind ≡ 0x08) →
+  pub read_restricted : (r : ℕ) → r < length es →
+      ((record_at_lem es r).kind ≡ 0x07) ⊎ ((record_at_lem es r).kind ≡ 0x08) ⊎ ((record_at_lem es r).kind ≡ 0x21) →
       role_on (role_at (nodes_of es) (record_at_lem es r).first) 0 ≡ false
-  unfolding is_restriction_lem shape_of
-  read_restricted r l k = restriction-fails r l (⊎_elim (λ e. rw e) (λ e. rw e) k)
+  unfolding needs_restricted_lem shape_of
+  read_restricted r l k = restricted-fails r l (⊎_elim (λ e. rw e) (⊎_elim (λ e. rw e) (λ e. rw e)) k)

@@ -13,16 +13,10 @@ use borrow.Author.Tests.{lt-ltb, le-ltb, le-leb, lt-leb, ne_eqb}
 use Rattle.records.specs.Entries.{Entry}
 use Rattle.records.specs.Shapes.{shape_of}
 use Rattle.records.specs.Scan.{State, start, blank, record_at_lem, naming, name, entry_for, after, body_byte_lem, shape_at, record_fault, record_after, whole, scan, scan_sheet}
-use Rattle.records.proofs.KindTable.{known_cases}
+use Rattle.records.proofs.KindTable.{bounds}
 use Rattle.records.proofs.Faultless.{body_at, record_right, scan-keeps}
 use Rattle.syntax.proofs.Formed.{read_formed}
 use Rattle.syntax.specs.Laid.{Rec, rec, rec_of, rec_bytes, laid, Sound, next_by, reach, Follows, WellFormed}
-
-body-short : (k : ℕ) → ((shape_of k).sort ≡ 0 → ⊥) → (shape_of k).body ≤ 2
-unfolding shape_of
-body-short =
-    known_cases (λ k. (shape_of k).body ≤ 2) (omega arith) (omega arith) (omega arith) (omega arith) (omega arith) (omega arith) (omega arith) (omega arith)
-    (omega arith) (omega arith) (omega arith) (omega arith) (omega arith) (omega arith)
 
 pub laid-append : (x y : List Rec) → laid (x ++ y) ≡ laid x ++ laid y
 unfolding laid
@@ -77,9 +71,9 @@ module _ (pre post : List ℕ) (k a b : ℕ) where
   second-there (suc zero) h = sym (h (omega arith))
   second-there (suc (suc n)) h = rw (le-leb 2 (suc (suc n)) (omega arith)) (get_or-append-add pre (k ∷ (take (suc (suc n)) (a ∷ b ∷ []) ++ post)) 2 0)
 
-bytes-length : (r : Rec) → ((shape_of r.kind).sort ≡ 0 → ⊥) → length (rec_bytes r) ≡ 1 + (shape_of r.kind).body
+pub bytes-length : (r : Rec) → length (rec_bytes r) ≡ 1 + (shape_of r.kind).body
 unfolding rec_bytes
-bytes-length r n = omega (arith, length-take ((shape_of r.kind).body) (r.first ∷ r.second ∷ []), body-short r.kind n)
+bytes-length r = omega (arith, length-take ((shape_of r.kind).body) (r.first ∷ r.second ∷ []), (bounds r.kind).body)
 
 -- a record that may follow is read
 module _ (pre post : List ℕ) (st : State) (r : Rec) (at : st.at ≡ length pre) (s : Sound st r) where
@@ -99,7 +93,7 @@ module _ (pre post : List ℕ) (st : State) (r : Rec) (at : st.at ≡ length pre
   second-is = rw at (second-there pre post r.kind r.first r.second ((shape_of r.kind).body) (s.second))
 
   enough : 1 + (shape_of r.kind).body + st.at ≤ length sheet
-  enough = omega (arith, length-append pre (rec_bytes r ++ post), length-append (rec_bytes r) post, bytes-length r (s.known))
+  enough = omega (arith, length-append pre (rec_bytes r ++ post), length-append (rec_bytes r) post, bytes-length r)
 
   no-fault : (record_fault sheet st).number ≡ 0
   unfolding record_fault
@@ -140,7 +134,7 @@ scan-laid (suc room) pre st (r ∷ rs) at h f =
     rw (← append_assoc pre (rec_bytes r) (laid rs)) (scan-laid room (pre ++ rec_bytes r) (next_by st r) rs moved (omega arith) f.1)
   where
     moved : (next_by st r).at ≡ length (pre ++ rec_bytes r)
-    moved = omega (arith, after-at st r, length-append pre (rec_bytes r), bytes-length r f.0.known)
+    moved = omega (arith, after-at st r, length-append pre (rec_bytes r), bytes-length r)
 
 -- well-formed records, laid, are read back as themselves
 pub laid-reads : (rs : List Rec) → WellFormed rs → scan_sheet (laid rs) ≡ whole (reach start rs)
@@ -185,7 +179,7 @@ laid-step sheet st l p i =
     let w = record_right sheet st p in
     let h : st.at + 1 + (shape_at sheet st.at).body ≤ length sheet = omega (arith, w.1) in
     laid-next sheet st (get_or sheet st.at 0) (body_at sheet st 1) (body_at sheet st 2) w.0 h
-    (bytes-at sheet st.at (shape_at sheet st.at).body (body-short (get_or sheet st.at 0) w.0) h) i
+    (bytes-at sheet st.at (shape_at sheet st.at).body (bounds (get_or sheet st.at 0)).body h) i
 
 -- a sheet that is read is laid of its records
 pub laid-read : (sheet : List ℕ) (st : State) → scan_sheet sheet ≡ whole st → laid (map rec_of st.records) ≡ sheet

@@ -18,10 +18,10 @@ use Rattle.syntax.specs.Normal.{Tag, Nf, top_n, bottom_n, name_n, not_n, and_n, 
 use Rattle.syntax.specs.Flatten.{Atom, everything, nothing, name_a, Filler, atomic, fresh, Part, name_p, fresh_p, exists_p, forall_p, atom, Pending, whole as whole_p, guarded, Walked, alike, SameRestriction, Lookup, shared, placed, meet_one, walk_by, walk_pending_by, run_by, weights, name_parts_lem, pendings, flatten_by, no_part, part_at}
 use Rattle.syntax.specs.Truth.{role_on}
 use Rattle.syntax.specs.Reading.{Kb, refusal, kb, kb_of, parts_of, admit, reading, read_kb}
-use Rattle.syntax.specs.Bounds.{All, RolesBelow, AxiomNames, AxiomRoles, AxiomsBelow, PartRole, PartFiller, FillerLow, PartLow, FillerPlain, PartPlain}
+use Rattle.syntax.specs.Bounds.{All, RolesBelow, AxiomNames, AxiomRoles, AxiomsBelow, PartRole, PartFiller, FillerLow, PartLow, FillerPlain, PartPlain, InclusionBelow}
 use Rattle.syntax.proofs.NormalForm.{EachNf, axiom_forms}
 use Rattle.syntax.proofs.Formed.{read-few}
-use Rattle.syntax.proofs.Bounded.{read_bounded, axioms_restricted}
+use Rattle.syntax.proofs.Bounded.{read_bounded, axioms_restricted, read_inclusions}
 use Rattle.syntax.proofs.Distinct.{parts_distinct, distinct_one}
 use Rattle.syntax.proofs.Queue.{names-length, left-start, left_grows, left_part}
 
@@ -248,6 +248,10 @@ module _ (limit : ℕ) (sheet : List ℕ) {k : Kb} (e : read_kb limit sheet ≡ 
   -- every role of a restriction fails on the empty role set
   pub kb_restricted : AxiomRoles (λ u. role_on u 0 ≡ false) k.axioms
   kb_restricted = let w = kb_state in rw w.2 (axioms_restricted sheet w.0 w.1)
+
+  -- every role inclusion is over roles below the count, its first role restricted
+  pub kb_inclusions : All (InclusionBelow k.roles) k.inclusions
+  kb_inclusions = let w = kb_state in rw w.2 (read_inclusions sheet w.0 w.1)
 
   -- the filler of a restriction part is everything, nothing, or a name or a fresh part that is there
   pub kb-fillers : (i : ℕ) → PartLow (length (parts_of k)) (part_at (parts_of k) i)

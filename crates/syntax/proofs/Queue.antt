@@ -6,7 +6,7 @@ use mathlib.Core.Option.{Option, none, some}
 use mathlib.Core.List.{List, [], ◌∷◌, ◌++◌, append_assoc, append-nil}
 use lib.ListN.{length, get_or, take, length-append, get_or-append}
 use native.Mathlib.Omega.{arith}
-use Rattle.syntax.specs.Concepts.{Node, no_node, Axiom, axiom_of, axioms_of}
+use Rattle.syntax.specs.Concepts.{Node, no_node, Axiom, axiom_of, axioms_of, inclusion_of, inclusions_of}
 use Rattle.syntax.specs.Normal.{Tag, Nf, top_n, bottom_n, name_n, not_n, and_n, or_n, exists_n, forall_n}
 use Rattle.syntax.specs.Flatten.{Atom, Filler, atomic, Part, name_p, exists_p, forall_p, Flat, atom, Pending, whole, guarded, Walked, Lookup, placed, meet_one, walk_by, walk_pending_by, Flattening, run_by, restrictions, weight, weights, name_parts_lem, pendings, flatten_by, part_at}
 
@@ -143,3 +143,10 @@ axioms-next [] zero = refl
 axioms-next [] (suc i) = refl
 axioms-next (n ∷ ns) zero = rw append-nil
 axioms-next (n ∷ ns) (suc i) = rw (axioms-next ns i, append_assoc)
+
+pub inclusions-next : (ns : List Node) (i : ℕ) → inclusions_of (take (suc i) ns) ≡ inclusions_of (take i ns) ++ inclusion_of (get_or ns i no_node)
+unfolding inclusions_of inclusion_of
+inclusions-next [] zero = refl
+inclusions-next [] (suc i) = refl
+inclusions-next (n ∷ ns) zero = rw append-nil
+inclusions-next (n ∷ ns) (suc i) = rw (inclusions-next ns i, append_assoc)

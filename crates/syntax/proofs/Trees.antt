@@ -10,7 +10,7 @@ use native.Mathlib.Decide.{dec_lt}
 use Rattle.records.specs.Entries.{Entry}
 use Rattle.records.specs.Shapes.{shape_of}
 use Rattle.records.specs.Scan.{record_at_lem, blank}
-use Rattle.syntax.specs.Concepts.{Role, named, Concept, bottom_c, Node, as_concept, as_role, no_node, node_of, node_for, nodes_from, nodes_of, axiom_of, concept_below, role_below}
+use Rattle.syntax.specs.Concepts.{Role, named, Concept, bottom_c, Node, as_concept, as_role, no_node, node_of, node_for, nodes_from, nodes_of, axiom_of, inclusion_of, concept_below, role_below}
 use Rattle.records.proofs.KindTable.{kind_cases, other}
 
 -- the trees that were there stay in front
@@ -127,6 +127,7 @@ node_unknown k u ns n a b =
       other k 0x13 u tt,
       other k 0x14 u tt,
       other k 0x20 u tt,
+      other k 0x21 u tt,
     )
 
 module _ (es : List Entry) (r : ℕ) (e : Entry) where
@@ -141,7 +142,7 @@ module _ (es : List Entry) (r : ℕ) (e : Entry) where
       kind_cases (λ k. e.kind ≡ k → as_concept (node_as k) ≡ bottom_c)
       (λ q. absurd (n1 q)) (λ q. refl) (λ q. absurd (n3 q)) (λ q. absurd (off (omega arith) (omega arith))) (λ q. absurd (off (omega arith) (omega arith)))
       (λ q. absurd (off (omega arith) (omega arith))) (λ q. absurd (off (omega arith) (omega arith))) (λ q. absurd (off (omega arith) (omega arith)))
-      (λ q. refl) (λ q. refl) (λ q. refl) (λ q. refl) (λ q. refl) (λ q. refl)
+      (λ q. refl) (λ q. refl) (λ q. refl) (λ q. refl) (λ q. refl) (λ q. refl) (λ q. refl)
       e.kind (λ u q. ap as_concept (node_unknown e.kind u (take r (nodes_of es)) r e.first e.second)) refl
     where
       off : 4 ≤ e.kind → e.kind ≤ 8 → ⊥
@@ -153,7 +154,7 @@ module _ (es : List Entry) (r : ℕ) (e : Entry) where
   role-none n16 n17 n18 n19 n20 =
       kind_cases (λ k. e.kind ≡ k → as_role (node_as k) ≡ named 0)
       (λ q. refl) (λ q. refl) (λ q. refl) (λ q. refl) (λ q. refl) (λ q. refl) (λ q. refl) (λ q. refl) (λ q. absurd (n16 q)) (λ q. absurd (n17 q))
-      (λ q. absurd (n18 q)) (λ q. absurd (n19 q)) (λ q. absurd (n20 q)) (λ q. refl)
+      (λ q. absurd (n18 q)) (λ q. absurd (n19 q)) (λ q. absurd (n20 q)) (λ q. refl) (λ q. refl)
       e.kind (λ u q. ap as_role (node_unknown e.kind u (take r (nodes_of es)) r e.first e.second)) refl
 
 -- the axiom of record e, the i-th, or none
@@ -169,4 +170,20 @@ module _ (es : List Entry) (i : ℕ) (e : Entry) (p : e ≡ record_at_lem es i) 
       rw (node_is es i e p)
       (kind_cases (λ k. e.kind ≡ k → axiom_of (node_as es i e k) ≡ [])
       (λ q. refl) (λ q. refl) (λ q. refl) (λ q. refl) (λ q. refl) (λ q. refl) (λ q. refl) (λ q. refl) (λ q. refl) (λ q. refl) (λ q. refl) (λ q. refl) (λ q. refl)
-      (λ q. absurd (n q)) e.kind (λ u q. ap axiom_of (node_unknown e.kind u (take i (nodes_of es)) i e.first e.second)) refl)
+      (λ q. absurd (n q)) (λ q. refl)
+      e.kind (λ u q. ap axiom_of (node_unknown e.kind u (take i (nodes_of es)) i e.first e.second)) refl)
+
+  -- the same of its role inclusion
+  pub inclusion_at : e.kind ≡ 33 →
+      inclusion_of (get_or (nodes_of es) i no_node) ≡ record { left = role_below es i e.first; right = role_below es i e.second } ∷ []
+  unfolding inclusion_of node_of role_below
+  inclusion_at k = rw (node_is es i e p, k) refl
+
+  pub inclusion-none : (e.kind ≡ 33 → ⊥) → inclusion_of (get_or (nodes_of es) i no_node) ≡ []
+  unfolding inclusion_of node_of
+  inclusion-none n =
+      rw (node_is es i e p)
+      (kind_cases (λ k. e.kind ≡ k → inclusion_of (node_as es i e k) ≡ [])
+      (λ q. refl) (λ q. refl) (λ q. refl) (λ q. refl) (λ q. refl) (λ q. refl) (λ q. refl) (λ q. refl) (λ q. refl) (λ q. refl) (λ q. refl) (λ q. refl) (λ q. refl)
+      (λ q. refl) (λ q. absurd (n q))
+      e.kind (λ u q. ap inclusion_of (node_unknown e.kind u (take i (nodes_of es)) i e.first e.second)) refl)

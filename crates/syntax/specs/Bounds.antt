@@ -1,7 +1,8 @@
--- The name and role numbers of concepts and axioms, and the roles of their restrictions; the roles and fillers of parts.
-use Rattle.std.specs.Prelude.{ℕ, ◌<◌, List, [], ◌∷◌}
-use Rattle.syntax.specs.Concepts.{Role, named, inverse, not_r, and_r, or_r, Concept, top_c, bottom_c, name_c, not_c, and_c, or_c, exists_c, forall_c, Axiom}
+-- The name and role numbers of concepts, axioms and role inclusions, and the roles of restrictions; the roles and fillers of parts.
+use Rattle.std.specs.Prelude.{ℕ, ◌<◌, ◌≡◌, false, List, [], ◌∷◌}
+use Rattle.syntax.specs.Concepts.{Role, named, inverse, not_r, and_r, or_r, Concept, top_c, bottom_c, name_c, not_c, and_c, or_c, exists_c, forall_c, Axiom, RoleInclusion}
 use Rattle.syntax.specs.Flatten.{everything, nothing, name_a, Filler, atomic, fresh, Part, name_p, fresh_p, exists_p, forall_p}
+use Rattle.syntax.specs.Truth.{role_on}
 
 -- each of a list
 abbrev pub All {ℓ κ} : {A : Type ℓ} → (A → Type κ) → List A → Type κ
@@ -51,6 +52,12 @@ AxiomRoles Q (a ∷ s) = EachRole Q a.left × EachRole Q a.right × AxiomRoles Q
 pub record AxiomsBelow (T L : ℕ) (s : List Axiom) : Type 0 where
   pub names : AxiomNames T s
   pub roles : AxiomRoles (RolesBelow L) s
+
+-- a role inclusion over roles below L, of which the first is restricted: "The first link must fail on the empty set" (02, N8)
+pub record InclusionBelow (L : ℕ) (i : RoleInclusion) : Type 0 where
+  pub left : RolesBelow L i.left
+  pub right : RolesBelow L i.right
+  pub restricted : role_on i.left 0 ≡ false
 
 -- a property of the role of a restriction part
 abbrev pub PartRole : (Role → Type 0) → Part → Type 0

@@ -1,4 +1,5 @@
--- Roles, concepts and axioms as trees (002, Table 1, for ALCIb), and the tree of a record, made of those of earlier records.
+-- Roles, concepts, axioms (002, Table 1, for ALCIb) and role inclusions as trees, and the tree of a record, made of those of earlier
+-- records.
 use Rattle.std.specs.Prelude.{ℕ, cond, List, [], ◌∷◌, ◌++◌, length, get_or, eqb, take}
 use Rattle.records.specs.Entries.{Entry}
 
@@ -23,21 +24,30 @@ pub record Axiom : Type 0 where
   pub left : Concept
   pub right : Concept
 
+-- a role inclusion (002: "axioms of the form U ⊑ V (role inclusion axiom)"); 02, N8: "wherever the first holds between two items, so
+-- does the second"
+pub record RoleInclusion : Type 0 where
+  pub left : Role
+  pub right : Role
+
 pub data Node : Type 0 where
   concept_n : Concept → Node
   role_n : Role → Node
   axiom_n : Axiom → Node
+  inclusion_n : RoleInclusion → Node
 
 -- what a reference finds; a sheet that is read has the right sort there
 abbrev pub as_concept : Node → Concept
 as_concept (concept_n c) = c
 as_concept (role_n r) = bottom_c
 as_concept (axiom_n a) = bottom_c
+as_concept (inclusion_n i) = bottom_c
 
 abbrev pub as_role : Node → Role
 as_role (concept_n c) = named 0
 as_role (role_n r) = r
 as_role (axiom_n a) = named 0
+as_role (inclusion_n i) = named 0
 
 abbrev pub no_node : Node
 no_node = concept_n bottom_c
@@ -65,7 +75,8 @@ node_of ns n k a b =
     (cond (eqb k 0x13) (role_n (and_r (role_at ns a) (role_at ns b)))
     (cond (eqb k 0x14) (role_n (or_r (role_at ns a) (role_at ns b)))
     (cond (eqb k 0x20) (axiom_n (record { left = concept_at ns a; right = concept_at ns b }))
-    no_node)))))))))))))
+    (cond (eqb k 0x21) (inclusion_n (record { left = role_at ns a; right = role_at ns b }))
+    no_node))))))))))))))
 
 abbrev pub node_for : List Node → Entry → Node
 node_for ns e = node_of ns (length ns) e.kind e.first e.second
@@ -82,10 +93,22 @@ unfoldable pub axiom_of : Node → List Axiom
 axiom_of (concept_n c) = []
 axiom_of (role_n r) = []
 axiom_of (axiom_n a) = a ∷ []
+axiom_of (inclusion_n i) = []
 
 unfoldable pub axioms_of : List Node → List Axiom
 axioms_of [] = []
 axioms_of (n ∷ ns) = axiom_of n ++ axioms_of ns
+
+-- the role inclusions, in order
+unfoldable pub inclusion_of : Node → List RoleInclusion
+inclusion_of (concept_n c) = []
+inclusion_of (role_n r) = []
+inclusion_of (axiom_n a) = []
+inclusion_of (inclusion_n i) = i ∷ []
+
+unfoldable pub inclusions_of : List Node → List RoleInclusion
+inclusions_of [] = []
+inclusions_of (n ∷ ns) = inclusion_of n ++ inclusions_of ns
 
 -- the concept and the role of record r, of those below a number
 unfoldable pub concept_below : List Entry → ℕ → ℕ → Concept

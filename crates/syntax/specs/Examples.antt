@@ -97,6 +97,14 @@ operands =
     0x10 ∷ 0x00 ∷ 0x01 ∷ 0x02 ∷ 0x03 ∷ 0x00 ∷ 0x07 ∷ 0x00 ∷ 0x01 ∷ 0x08 ∷ 0x00 ∷ 0x02 ∷ 0x07 ∷ 0x00 ∷ 0x03 ∷ 0x07 ∷ 0x00 ∷ 0x02 ∷
     0x08 ∷ 0x00 ∷ 0x03 ∷ 0x06 ∷ 0x04 ∷ 0x05 ∷ 0x05 ∷ 0x09 ∷ 0x06 ∷ 0x05 ∷ 0x07 ∷ 0x08 ∷ 0x20 ∷ 0x0a ∷ 0x0b ∷ []
 
+-- 02, N8. Everything is some k0 everything, and only k1 nothing; then k0 is within k1
+abbrev pub without_inclusion : List ℕ
+without_inclusion =
+    0x01 ∷ 0x10 ∷ 0x00 ∷ 0x10 ∷ 0x01 ∷ 0x02 ∷ 0x07 ∷ 0x01 ∷ 0x00 ∷ 0x20 ∷ 0x00 ∷ 0x04 ∷ 0x08 ∷ 0x02 ∷ 0x03 ∷ 0x20 ∷ 0x00 ∷ 0x06 ∷ []
+
+abbrev pub with_inclusion : List ℕ
+with_inclusion = without_inclusion ++ (0x21 ∷ 0x01 ∷ 0x02 ∷ [])
+
 -- T, L and c; the number of parts listed; a refusal's number and place
 abbrev counts : ℕ → ℕ → ℕ → List ℕ
 counts t l c = 0 ∷ 0 ∷ t ∷ l ∷ c ∷ []
@@ -191,6 +199,14 @@ references =
     faulty (then (0x20 ∷ 0x00 ∷ 0x01 ∷ [])) 6 16 ∷
     faulty (then (0x20 ∷ 0x00 ∷ 0x06 ∷ [])) 17 16 ∷
     faulty (then (0x20 ∷ 0x00 ∷ 0x02 ∷ [])) 7 16 ∷
+    faulty (then (0x21 ∷ 0x07 ∷ 0x01 ∷ [])) 5 15 ∷
+    faulty (then (0x21 ∷ 0x00 ∷ 0x01 ∷ [])) 16 15 ∷
+    faulty (then (0x21 ∷ 0x06 ∷ 0x01 ∷ [])) 17 15 ∷
+    faulty (then (0x21 ∷ 0x03 ∷ 0x01 ∷ [])) 7 15 ∷
+    faulty (then (0x21 ∷ 0x01 ∷ 0x07 ∷ [])) 5 16 ∷
+    faulty (then (0x21 ∷ 0x01 ∷ 0x00 ∷ [])) 16 16 ∷
+    faulty (then (0x21 ∷ 0x01 ∷ 0x06 ∷ [])) 17 16 ∷
+    faulty (then (0x21 ∷ 0x01 ∷ 0x03 ∷ [])) 7 16 ∷
     faulty (then (0x04 ∷ 0x03 ∷ [])) 6 15 ∷
     faulty (then (0x12 ∷ 0x02 ∷ [])) 16 15 ∷
     faulty (then (0x07 ∷ 0x02 ∷ 0x00 ∷ [])) 16 15 ∷
@@ -203,6 +219,7 @@ references =
     faulty (then (0x05 ∷ 0x04 ∷ 0x04 ∷ [])) 7 16 ∷
     faulty (then (0x14 ∷ 0x05 ∷ 0x05 ∷ [])) 7 16 ∷
     faulty (then (0x20 ∷ 0x04 ∷ 0x04 ∷ [])) 7 16 ∷
+    faulty (then (0x21 ∷ 0x05 ∷ 0x05 ∷ [])) 7 16 ∷
     []
 
 -- 1, "unknown kind": so many kinds from one on; all that the table of kinds leaves out
@@ -211,7 +228,7 @@ unknown_from zero k = []
 unknown_from (suc n) k = faulty (k ∷ []) 1 0 ∷ unknown_from n (suc k)
 
 abbrev unknown : List Row
-unknown = unknown_from 1 0x00 ++ unknown_from 7 0x09 ++ unknown_from 11 0x15 ++ unknown_from 223 0x21
+unknown = unknown_from 1 0x00 ++ unknown_from 7 0x09 ++ unknown_from 11 0x15 ++ unknown_from 222 0x22
 
 -- "inside a record in this order: 3, a 256th record begins; 1, unknown kind; 2, body cut off; .. then for each reference in turn 5,
 -- .. 6, .. 7, ..; last 8": each of these records but the first has a fault of later order too
@@ -316,6 +333,25 @@ sharing =
     listed repeated 6 1 7 (0 ∷ 0 ∷ 0 ∷ 0 ∷ 1 ∷ 0 ∷ 0 ∷ 2 ∷ 0 ∷ 0 ∷ 3 ∷ 0 ∷ 0 ∷ 4 ∷ 0 ∷ 0 ∷ 5 ∷ 0 ∷ 2 ∷ 7 ∷ 0 ∷ []) ∷
     []
 
+-- 02, N8: a role inclusion gives no mark, and its links count for L; "The first link must fail on the empty set", and the second
+-- may hold there; "8 also for kind 21", last of its faults; "17 for naming such a record"; its body has two bytes
+abbrev inclusions : List Row
+inclusions =
+    listed without_inclusion 0 2 2 (2 ∷ 4 ∷ 0 ∷ 3 ∷ 6 ∷ 0 ∷ []) ∷
+    listed with_inclusion 0 2 2 (2 ∷ 4 ∷ 0 ∷ 3 ∷ 6 ∷ 0 ∷ []) ∷
+    listed (0x10 ∷ 0x00 ∷ 0x11 ∷ 0x02 ∷ 0x21 ∷ 0x00 ∷ 0x01 ∷ []) 0 3 0 [] ∷
+    listed (0x10 ∷ 0x00 ∷ 0x12 ∷ 0x00 ∷ 0x21 ∷ 0x00 ∷ 0x01 ∷ []) 0 1 0 [] ∷
+    faulty (0x10 ∷ 0x00 ∷ 0x12 ∷ 0x00 ∷ 0x21 ∷ 0x01 ∷ 0x00 ∷ []) 8 4 ∷
+    faulty (0x10 ∷ 0x00 ∷ 0x12 ∷ 0x00 ∷ 0x12 ∷ 0x00 ∷ 0x21 ∷ 0x01 ∷ 0x02 ∷ []) 8 6 ∷
+    faulty (0x10 ∷ 0x00 ∷ 0x12 ∷ 0x00 ∷ 0x21 ∷ 0x01 ∷ 0x03 ∷ []) 5 6 ∷
+    faulty (0x01 ∷ 0x10 ∷ 0x00 ∷ 0x12 ∷ 0x01 ∷ 0x21 ∷ 0x02 ∷ 0x00 ∷ []) 16 7 ∷
+    faulty (0x10 ∷ 0x00 ∷ 0x12 ∷ 0x00 ∷ 0x21 ∷ 0x01 ∷ 0x01 ∷ []) 7 6 ∷
+    faulty (0x10 ∷ 0x00 ∷ 0x21 ∷ 0x00 ∷ 0x00 ∷ 0x12 ∷ 0x01 ∷ []) 17 6 ∷
+    faulty (0x10 ∷ 0x00 ∷ 0x21 ∷ 0x00 ∷ 0x00 ∷ 0x04 ∷ 0x01 ∷ []) 17 6 ∷
+    faulty (0x10 ∷ 0x00 ∷ 0x21 ∷ 0x00 ∷ 0x00 ∷ 0x21 ∷ 0x00 ∷ 0x01 ∷ []) 17 7 ∷
+    faulty (0x10 ∷ 0x00 ∷ 0x21 ∷ 0x00 ∷ []) 2 2 ∷
+    []
+
 -- the parts of 03 0B: twelve names, three bytes each
 abbrev names12 : List ℕ
 names12 =
@@ -350,4 +386,5 @@ table =
     faulty (0x01 ∷ 0x20 ∷ 0x00 ∷ 0x00 ∷ 0x04 ∷ 0x01 ∷ []) 17 5 ∷
     faulty (0x01 ∷ 0x20 ∷ 0x00 ∷ 0x00 ∷ 0x12 ∷ 0x01 ∷ []) 17 5 ∷
     faulty (0x01 ∷ 0x20 ∷ 0x00 ∷ 0x00 ∷ 0x10 ∷ 0x00 ∷ 0x07 ∷ 0x02 ∷ 0x01 ∷ []) 17 8 ∷
-    (references ++ unknown ++ in_order ++ named_once ++ largest ++ on_empty ++ left_to_right ++ under_nots ++ as_written ++ sharing)
+    (references ++ unknown ++ in_order ++ named_once ++ largest ++ on_empty ++ left_to_right ++ under_nots ++ as_written ++ sharing
+    ++ inclusions)

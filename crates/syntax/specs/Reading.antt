@@ -2,21 +2,28 @@
 use Rattle.std.specs.Prelude.{ℕ, ◌+◌, Bool, cond, ◌||◌, List, length, leb, eqb}
 use Rattle.records.specs.Scan.{State, Scanning, refused, whole, scan_sheet}
 use Rattle.records.specs.Places.{is_record_fault, is_reference_fault}
-use Rattle.syntax.specs.Concepts.{Axiom, nodes_of, axioms_of}
+use Rattle.syntax.specs.Concepts.{Axiom, RoleInclusion, nodes_of, axioms_of, inclusions_of}
 use Rattle.syntax.specs.Flatten.{Flat, Part, flatten}
 
--- T, L and the axioms as written
+-- T, L, and the axioms and role inclusions as written
 pub record Kb : Type 0 where
   pub names : ℕ
   pub roles : ℕ
   pub axioms : List Axiom
+  pub inclusions : List RoleInclusion
 
 pub data Reading : Type 0 where
   refusal : ℕ → ℕ → Reading
   kb : Kb → Reading
 
 abbrev pub kb_of : State → Kb
-kb_of st = record { names = st.names; roles = st.roles; axioms = axioms_of (nodes_of st.records) }
+kb_of st =
+    record {
+      names = st.names;
+      roles = st.roles;
+      axioms = axioms_of (nodes_of st.records);
+      inclusions = inclusions_of (nodes_of st.records);
+    }
 
 -- the flattened axioms and the parts of a knowledge base; c is the number of parts
 abbrev pub flats_of : Kb → List Flat

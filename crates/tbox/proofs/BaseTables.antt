@@ -2,6 +2,7 @@
 use Rattle.std.proofs.Common.{◌≡◌, ℕ, ◌+◌, ◌<◌, List, length, get_or, false, Option, Some, None, MatchOption, add-one, Ok, sym, ap, ◌∙◌, arith}
 use Rattle.bitset.proofs.Laws.{word_at_none}
 use Rattle.records.specs.Entries.{Entry}
+use Rattle.syntax.specs.Concepts.{nodes_of, inclusions_of}
 use Rattle.syntax.specs.Flatten.{atomic, Part, part_at}
 use Rattle.syntax.specs.Parts.{role_holds}
 use Rattle.syntax.specs.Reading.{parts_of}
@@ -19,6 +20,7 @@ use Rattle.tbox.specs.declared.base.Part.{Part as PlainPart}
 use Rattle.tbox.specs.declared.base.Base.{Base}
 use Rattle.tbox.specs.Promise.{filler_is, kind_is, no_part, Loads}
 use Rattle.tbox.specs.GoodLabels.{GoodOf}
+use Rattle.tbox.specs.ClosedRoleSets.{ClosedOf}
 use Rattle.tbox.specs.Admission.{kb_admitted, Reads}
 use Rattle.tbox.specs.PlainData.{RoleOf, PartIs, PartsAre}
 use Rattle.tbox.proofs.PartLists.{parts_at}
@@ -47,8 +49,9 @@ module _ (sheet : List ℕ) (es : List Entry) (a : Admitted) (h : Reads sheet es
   part_is xs m i l = rw (← h.parts, parts_at es a.parts.items i (Name 0) l) (m.each i (Name 0) l)
 
   pub loads_whole : (b : Base) → b.names ≡ a.names → b.size.roles ≡ a.roles → b.size.parts ≡ length a.parts.items →
-      PartsAre es a.parts.items (length a.parts.items) b.parts.items → GoodOf es a.names (length a.parts.items) b.good → Loads sheet (Ok b)
-  loads_whole b t l c m g = (
+      PartsAre es a.parts.items (length a.parts.items) b.parts.items → GoodOf es a.names (length a.parts.items) b.good →
+      ClosedOf (inclusions_of (nodes_of es)) b.closed → Loads sheet (Ok b)
+  loads_whole b t l c m g i = (
     kb_admitted es a,
     h.reading,
     record {
@@ -58,5 +61,6 @@ module _ (sheet : List ℕ) (es : List Entry) (a : Admitted) (h : Reads sheet es
       kind = λ i n. (part_is b.parts.items m i (omega arith)).kind;
       role = λ i w n. (part_is b.parts.items m i (omega arith)).role w;
       good = rw (← c) at g;
+      closed = i;
     },
   )

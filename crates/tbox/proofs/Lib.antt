@@ -1,4 +1,5 @@
 pub mod BaseTables
+pub mod InclusionTruth
 pub mod KindNumbers
 pub mod PartBytes
 pub mod PartLists

@@ -5,7 +5,7 @@ use Rattle.refusals.specs.declared.Refusal.{Refusal}
 use Rattle.records.specs.Entries.{Entry}
 use Rattle.records.specs.RecordTable.{Scans}
 use Rattle.records.specs.declared.Progress.{Progress}
-use Rattle.syntax.specs.Concepts.{nodes_of, axioms_of}
+use Rattle.syntax.specs.Concepts.{nodes_of, axioms_of, inclusions_of}
 use Rattle.syntax.specs.Reading.{Kb, refusal, kb, read_kb}
 use Rattle.syntax.specs.Answers.{limit}
 use Rattle.tbox.specs.declared.admission.Admitted.{Admitted}
@@ -13,7 +13,13 @@ use Rattle.tbox.specs.GoodLabels.{Made}
 
 -- the knowledge base that records make
 abbrev pub kb_admitted : List Entry → Admitted → Kb
-kb_admitted es a = record { names = a.names; roles = a.roles; axioms = axioms_of (nodes_of es) }
+kb_admitted es a =
+    record {
+      names = a.names;
+      roles = a.roles;
+      axioms = axioms_of (nodes_of es);
+      inclusions = inclusions_of (nodes_of es);
+    }
 
 -- its records, and the knowledge base and parts that they make
 pub record Reads (sheet : List ℕ) (es : List Entry) (a : Admitted) : Type 0 where

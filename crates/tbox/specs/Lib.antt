@@ -7,6 +7,7 @@
 --   RestrictionPlaces  where each record that is a restriction stands among the parts
 --   TruthWords         on which labels what is gone through holds, 64 at a time
 --   GoodLabels         the labels on which every flattened axiom holds
+--   ClosedRoleSets     the role sets on which every role inclusion holds
 pub mod Answers
 pub mod Promise
 pub mod Admission
@@ -14,3 +15,4 @@ pub mod PlainData
 pub mod RestrictionPlaces
 pub mod TruthWords
 pub mod GoodLabels
+pub mod ClosedRoleSets

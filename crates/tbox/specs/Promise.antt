@@ -12,7 +12,7 @@ use Rattle.tbox.specs.declared.base.Kind.TheVariants.{Name, Fresh, Restriction}
 use Rattle.tbox.specs.declared.base.Part.{Part}
 use Rattle.tbox.specs.declared.base.Base.{Base}
 use Rattle.syntax.specs.Flatten.{everything, nothing, name_a, Filler as FillerOf, atomic, fresh, Part as PartOf, name_p, fresh_p, exists_p, forall_p, part_at}
-use Rattle.syntax.specs.Truth.{kb_on}
+use Rattle.syntax.specs.Truth.{kb_on, rbox_on}
 use Rattle.syntax.specs.Reading.{Kb, refusal, kb, flats_of, parts_of, read_kb}
 use Rattle.syntax.specs.Answers.{limit}
 use Rattle.syntax.specs.Parts.{role_holds, everything_no, nothing_no}
@@ -59,6 +59,7 @@ pub record Flattened (k : Kb) (b : Base) : Type 0 where
   pub kind : (i : ℕ) → i < b.size.parts → (part_in b i).kind ≡ kind_is (part_at (parts_of k) i)
   pub role : (i w : ℕ) → i < b.size.parts → w < 4 → get_or (part_in b i).role w 0 ≡ word_at (role_holds (part_at (parts_of k) i)) w
   pub good : (w : ℕ) → 64 * w < 2 ^ b.size.parts → get_or b.good w 0 ≡ word_at (kb_on (flats_of k)) w
+  pub closed : (w : ℕ) → w < 4 → get_or b.closed w 0 ≡ word_at (rbox_on k.inclusions) w
 
 -- what loading a sheet answers: the refusal, or the knowledge base
 abbrev pub Loads : List ℕ → Result Base Refusal → Type 0

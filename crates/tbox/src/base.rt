@@ -53,7 +53,8 @@ pub struct Part {
     pub role: [u64; 4],
 }
 
-// The names, the parts and roles, and the labels on which every flattened axiom holds.
+// The names, the parts and roles, the labels on which every flattened axiom holds, and the role sets that are closed: on which
+// every role inclusion holds.
 // 64 words whatever c is: there is no heap, and a label of 12 bits always has its word.
 #[derive(Drop)]
 pub struct Base {
@@ -61,6 +62,7 @@ pub struct Base {
     pub size: Size,
     pub parts: ArrayVec<Part, 12>,
     pub good: [u64; 64],
+    pub closed: [u64; 4],
     pub ghost all: { length parts.items ≡ size.parts },
     // Here and not in `Size`, whose functions need c + L alone.
     pub ghost few: { size.roles ≤ 4 },

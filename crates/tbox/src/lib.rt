@@ -15,6 +15,7 @@ use refusals::{Reason, Refusal};
 
 pub mod admission;
 pub mod base;
+mod inclusions;
 pub mod loading;
 mod places;
 mod truth;

@@ -7,6 +7,7 @@ ghost use Rattle.tbox.specs.PlainData.{RoleOf, PartIs, PartsAre};
 
 use crate::admission::Admitted;
 use crate::base::{Base, Filler, Kind, Part, Size};
+use crate::inclusions::closed_words;
 use crate::truth::{good_words, role_word};
 use arrayvec::ArrayVec;
 use flattening::parts::{Origin, Source};
@@ -29,6 +30,7 @@ pub fn load(sheet: &[u8]) -> Result<Base, Refusal>
         },
         parts: parts_of(&table, &admitted.parts),
         good: good_words(&table, admitted.names, &admitted.parts),
+        closed: closed_words(&table),
     })
 }
 

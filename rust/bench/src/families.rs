@@ -1,12 +1,14 @@
-//! Sheets of any number of parts and roles, of four families.
+//! Sheets of any number of parts and roles, of five families.
 
-use crate::sheets::{Sheet, AXIOM, BOTTOM, EXISTS, FORALL, INVERSE, NAME, ROLE, TOP};
+use crate::sheets::{Sheet, AXIOM, BOTTOM, EXISTS, FORALL, INCLUSION, INVERSE, NAME, ROLE, TOP};
 
 /// What becomes of the initial domino set.
 #[derive(Clone, Copy, Debug, PartialEq, Eq)]
 pub enum Family {
     /// Something stays.
     Met,
+    /// The same with role inclusions.
+    MetWithInclusions,
     /// It is empty.
     EmptyAtOnce,
     /// One sweep empties it.
@@ -16,8 +18,9 @@ pub enum Family {
 }
 
 impl Family {
-    pub const ALL: [Family; 4] = [
+    pub const ALL: [Family; 5] = [
         Family::Met,
+        Family::MetWithInclusions,
         Family::EmptyAtOnce,
         Family::EmptyInOneSweep,
         Family::EmptyInSweeps,
@@ -27,6 +30,7 @@ impl Family {
     pub fn name(self) -> &'static str {
         match self {
             Family::Met => "met",
+            Family::MetWithInclusions => "met, inclusions",
             Family::EmptyAtOnce => "unmet, none initial",
             Family::EmptyInOneSweep => "unmet in one sweep",
             Family::EmptyInSweeps => "unmet in sweeps",
@@ -40,6 +44,10 @@ impl Family {
         let mut base = Base::new(roles);
         match self {
             Family::Met => base.restrictions(parts),
+            Family::MetWithInclusions => {
+                base.restrictions(parts);
+                base.inclusions();
+            }
             Family::EmptyAtOnce => {
                 base.restrictions(parts);
                 base.axiom(base.top, base.bottom);
@@ -106,6 +114,16 @@ impl Base {
                 self.sheet.push([FORALL, role, filler])
             };
             self.axiom(names[turn], restriction);
+        }
+    }
+
+    /// Each role is in the next, and an only role in its inverse.
+    fn inclusions(&mut self) {
+        for pair in self.roles.windows(2) {
+            self.sheet.push([INCLUSION, pair[0], pair[1]]);
+        }
+        if let [role] = self.roles[..] {
+            self.sheet.push([INCLUSION, role, self.inverses[0]]);
         }
     }
 

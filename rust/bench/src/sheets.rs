@@ -16,6 +16,7 @@ const ROLE_NOT: u8 = 0x12;
 const ROLE_AND: u8 = 0x13;
 const ROLE_OR: u8 = 0x14;
 pub(crate) const AXIOM: u8 = 0x20;
+pub(crate) const INCLUSION: u8 = 0x21;
 
 /// A sheet under construction.
 #[derive(Default)]
@@ -53,7 +54,7 @@ impl Sheet {
 
 /// Every sheet with its name.
 #[must_use]
-pub fn all() -> [(&'static str, Sheet); 10] {
+pub fn all() -> [(&'static str, Sheet); 11] {
     [
         ("boolean tree", boolean_tree()),
         ("boolean chain", boolean_chain()),
@@ -65,6 +66,7 @@ pub fn all() -> [(&'static str, Sheet); 10] {
         ("125 claims, 10 different", ten_claims()),
         ("role trees alike", role_trees(1, 61)),
         ("role trees nearly alike", role_trees(8, 13)),
+        ("251 role inclusions", inclusions()),
     ]
 }
 
@@ -90,6 +92,16 @@ fn base(sheet: &mut Sheet) -> Base {
         exists,
         forall,
     }
+}
+
+/// Four leaf roles, each in each again and again.
+fn inclusions() -> Sheet {
+    let mut sheet = Sheet::default();
+    let roles: Vec<u8> = (0..4).map(|number| sheet.push([ROLE, number])).collect();
+    for turn in 0..sheet.room() {
+        sheet.push([INCLUSION, roles[turn % 4], roles[turn / 4 % 4]]);
+    }
+    sheet
 }
 
 /// And or or, in turns.

@@ -40,6 +40,7 @@ fn sheets_of_255_records() {
         ("125 claims, 10 different", 10, Err(9)),
         ("role trees alike", 1, Ok(4)),
         ("role trees nearly alike", 8, Err(9)),
+        ("251 role inclusions", 0, Ok(0)),
     ];
     for ((name, sheet), expected) in sheets::all().into_iter().zip(expected) {
         let counted = (

@@ -133,8 +133,8 @@ const EXPORT: &str = "\
 lodhrussi export [OPTION...] FILE
 
 Prints the rules of a sheet as OWL text, a line each: what lodhrussi import
-reads. A rule with a link that has not, and, or is refused: OWL 2 has no such
-links.
+reads. A link rule is refused, and so is a rule with a link that has not, and,
+or: such a text has neither.
 
     --ontology IRI  print an ontology of that IRI, which Protege and Konclude
                     open as it is: prefixes, and declarations of the classes

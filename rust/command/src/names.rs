@@ -28,7 +28,7 @@ const EXTENSION: &str = "names";
 const LIMIT: u64 = 1 << 20;
 
 /// Words that a tree's text has of its own.
-const RESERVED: [&str; 10] = [
+const RESERVED: [&str; 11] = [
     "everything",
     "nothing",
     "not",
@@ -39,6 +39,7 @@ const RESERVED: [&str; 10] = [
     "every",
     "is",
     "reversed",
+    "within",
 ];
 
 impl Names {

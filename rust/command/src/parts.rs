@@ -158,7 +158,8 @@ mod tests {
             Tree::And(c, d) | Tree::Or(c, d) => is_normal(c) && is_normal(d),
             Tree::Exists(_, c) | Tree::Forall(_, c) => is_normal(c),
             Tree::Top | Tree::Bottom | Tree::Name(_) => true,
-            Tree::Role(_) | Tree::Inverse(_) | Tree::Axiom(..) => false,
+            Tree::Role(_) | Tree::Inverse(_) => false,
+            Tree::Axiom(..) | Tree::Inclusion(..) => false,
         }
     }
 

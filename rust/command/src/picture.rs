@@ -101,7 +101,7 @@ fn hex(record: &Record<'_>, length: usize) -> String {
 /// What is drawn of a refusal; nothing if another sheet was refused.
 fn drawings<'a>(sheet: &'a [u8], refusal: &Refusal, names: &Names) -> Option<Vec<Drawing<'a>>> {
     if refusal.number == 20 {
-        return Some(vec![with_boolean_role(sheet, refusal, names)?]);
+        return Some(vec![without_text(sheet, refusal, names)?]);
     }
     let record = faulty_record(sheet, refusal)?;
     let draw = |bytes, caption| {
@@ -128,16 +128,22 @@ fn drawings<'a>(sheet: &'a [u8], refusal: &Refusal, names: &Names) -> Option<Vec
     }
 }
 
-/// An axiom that has no text.
-fn with_boolean_role<'a>(sheet: &'a [u8], refusal: &Refusal, names: &Names) -> Option<Drawing<'a>> {
+/// An axiom or a role inclusion that has no text.
+fn without_text<'a>(sheet: &'a [u8], refusal: &Refusal, names: &Names) -> Option<Drawing<'a>> {
     let mut records = records(sheet);
     let record = records.find(|record| record.start as u64 == refusal.place)?;
     let tree = trees(sheet).into_iter().nth(record.number)?;
-    let role = boolean_role(&tree)?.text(names);
+    let caption = match &*tree {
+        Tree::Inclusion(..) => "found a link rule; wanted a rule about classes".into(),
+        axiom => {
+            let role = boolean_role(axiom)?.text(names);
+            format!("found the link {role}; wanted a link as named or reversed")
+        }
+    };
     Some(Drawing {
         record,
         bytes: 0..1 + record.fields().len(),
-        caption: format!("found the link {role}; wanted a link as named or reversed"),
+        caption,
     })
 }
 
@@ -181,12 +187,17 @@ fn number_too_large(record: &Record<'_>) -> Option<String> {
     Some(format!("number: found {number}; wanted 0 to {last}"))
 }
 
-/// The role of a restriction, which holds on the empty role set.
+/// The role of a restriction, or the first of an inclusion, which holds on the
+/// empty role set.
 fn on_empty_set(sheet: &[u8], record: &Record<'_>, names: &Names) -> Option<String> {
     let role = usize::from(*record.body.first()?);
     let role = trees(&sheet[..record.start]).get(role)?.text(names);
+    let link = match record.sort()? {
+        Sort::Axiom => "first link",
+        _ => "link",
+    };
     Some(format!(
-        "found the link {role}, which holds on the empty set of links; \
+        "found the {link} {role}, which holds on the empty set of links; \
          wanted a link that fails there"
     ))
 }

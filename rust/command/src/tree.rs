@@ -7,7 +7,7 @@ use crate::names::Names;
 use lodhrussi::records::{records, Record};
 use std::rc::Rc;
 
-/// What a record stands for: a concept, a role or an axiom.
+/// What a record stands for: a concept, a role, an axiom or a role inclusion.
 #[derive(Clone, Debug, PartialEq, Eq)]
 pub enum Tree {
     /// Written as everything.
@@ -28,6 +28,8 @@ pub enum Tree {
     Forall(Rc<Tree>, Rc<Tree>),
     /// Written as a rule: every first is second.
     Axiom(Rc<Tree>, Rc<Tree>),
+    /// A role inclusion, written as a link rule: first within second.
+    Inclusion(Rc<Tree>, Rc<Tree>),
 }
 
 /// How tightly an operator binds, loosest first.
@@ -69,6 +71,7 @@ impl Tree {
             0x07 => Tree::Exists(named(0)?, named(1)?),
             0x08 => Tree::Forall(named(0)?, named(1)?),
             0x20 => Tree::Axiom(named(0)?, named(1)?),
+            0x21 => Tree::Inclusion(named(0)?, named(1)?),
             _ => return None,
         })
     }
@@ -155,6 +158,10 @@ impl Tree {
             Tree::Axiom(c, d) => {
                 put("every ", c, Or);
                 put(" is ", d, Or);
+            }
+            Tree::Inclusion(u, v) => {
+                put("", u, Not);
+                put(" within ", v, Not);
             }
         }
     }

@@ -1,12 +1,13 @@
 //! Sheets with faults, and bytes that are hardly a sheet.
 
+use crate::inclusions;
 use crate::made_up::{self, Sheet, MAX_RECORDS};
 use crate::misreference::{self, Case};
 use crate::random::Random;
 use crate::records::body_length;
 
-const KINDS: [u8; 14] = [
-    0x01, 0x02, 0x03, 0x04, 0x05, 0x06, 0x07, 0x08, 0x10, 0x11, 0x12, 0x13, 0x14, 0x20,
+const KINDS: [u8; 15] = [
+    0x01, 0x02, 0x03, 0x04, 0x05, 0x06, 0x07, 0x08, 0x10, 0x11, 0x12, 0x13, 0x14, 0x20, 0x21,
 ];
 
 /// A made-up sheet with some damage done to it.
@@ -21,7 +22,7 @@ pub fn damaged(random: &mut Random) -> Vec<u8> {
         5 => overwrite_body(&mut sheet, random),
         6 => add_loose_records(&mut sheet, random),
         7 => add_large_number(&mut sheet, random),
-        8 => add_empty_role_restriction(&mut sheet, random),
+        8 => add_use_of_empty_role(&mut sheet, random),
         9 => overfill(&mut sheet, random),
         10 => add_restrictions(&mut sheet, random),
         _ => add_misreference(&mut sheet, random),
@@ -135,8 +136,9 @@ fn add_large_number(sheet: &mut Sheet, random: &mut Random) {
     sheet.push(&[kind, limit + over]);
 }
 
-/// A restriction by a role that holds on the empty role set, with any filler.
-fn add_empty_role_restriction(sheet: &mut Sheet, random: &mut Random) {
+/// A restriction by a role that holds on the empty role set, with any filler, or
+/// an inclusion of such a role in any.
+fn add_use_of_empty_role(sheet: &mut Sheet, random: &mut Random) {
     sheet.leaf_concept(&[0x01]);
     let role = match sheet.take_empty_role() {
         Some(role) => role,
@@ -145,6 +147,9 @@ fn add_empty_role_restriction(sheet: &mut Sheet, random: &mut Random) {
             sheet.push(&[0x12, leaf])
         }
     };
+    if random.one_in(2) {
+        return inclusions::add_on_empty(sheet, role, random);
+    }
     let filler = match random.below(4) {
         0 => random.byte(),
         _ => sheet.take_concept(random),

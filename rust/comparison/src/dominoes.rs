@@ -1,6 +1,7 @@
 //! An engine against the reference: the calls about domino sets on one sheet.
 
 use crate::hex::Hex;
+use crate::inclusions;
 use crate::lent::{contents, Lent};
 use crate::misreference;
 use crate::random::Random;
@@ -62,15 +63,31 @@ pub struct Tally {
     pub absent: u64,
     pub kept: u64,
     /// Strikes that struck, by the condition told.
-    pub struck: [u64; 7],
-    /// Of these, by the condition told and a later one that fails too.
-    pub struck_and: [[u64; 7]; 7],
+    pub struck: [u64; 8],
+    /// Of these, by the condition told and one of those tested later that fails
+    /// too.
+    pub struck_and: [[u64; 8]; 8],
     /// Sheets by parts and roles together.
     pub sizes: [u64; 13],
     pub sharing: Sharing,
+    pub inclusions: inclusions::Tally,
 }
 
 impl Tally {
+    /// How often each two conditions failed at once, with their numbers, the one
+    /// tested first before the other.
+    pub fn pairs(&self) -> impl Iterator<Item = (u8, u8, u64)> + '_ {
+        let order = Conditions::ORDER;
+        let earlier = order.into_iter().enumerate();
+        earlier.flat_map(move |(at, told)| {
+            let later = order[at + 1..].to_vec();
+            let count = move |later| self.struck_and[usize::from(told)][usize::from(later)];
+            later
+                .into_iter()
+                .map(move |later| (told, later, count(later)))
+        })
+    }
+
     /// Makes one call by the engine and by the reference. Both must answer and
     /// leave the same; `set` is then what they leave.
     ///
@@ -105,6 +122,7 @@ impl Tally {
             Err(refusal) => {
                 self.refused[refusal.number as usize] += 1;
                 self.misreferences.count(sheet, refusal);
+                self.inclusions.count_refusal(sheet, refusal);
             }
             Ok(Answer::Strike(strike)) => match strike.verdict {
                 Verdict::Absent => self.absent += 1,
@@ -122,7 +140,8 @@ impl Tally {
         self.struck[told] += 1;
         let conditions = Conditions::of(&flatten(sheet).expect("a sheet that was accepted"));
         let domino = conditions.shape.domino(number);
-        for later in condition + 1..=6 {
+        let tested = Conditions::ORDER.into_iter();
+        for later in tested.skip_while(|&tested| tested != condition).skip(1) {
             let fails = conditions.fails(before, domino, later);
             self.struck_and[told][usize::from(later)] += u64::from(fails);
         }
@@ -139,6 +158,7 @@ impl Tally {
         self.sheets += 1;
         self.sizes[(counts.marks + counts.links) as usize] += 1;
         self.sharing.count(sheet, counts);
+        self.inclusions.count(sheet);
     }
 
     /// Compares every call on one sheet, with several sets. Sets that would
@@ -280,16 +300,24 @@ impl fmt::Display for Tally {
         )?;
         write!(f, "; strikes absent: {} kept: {}", self.absent, self.kept)?;
         list(f, " struck by condition", &self.struck)?;
-        let pairs = (1..)
-            .zip(&self.struck_and[1..])
-            .map(|(told, also)| &also[told + 1..]);
-        if let Some(rarest) = pairs.flatten().min().filter(|&&rarest| rarest > 0) {
-            write!(f, "; each two conditions failing at once: {rarest} or more")?;
+        let rarest = self.pairs().map(|(.., count)| count).min();
+        if let Some(rarest) = rarest.filter(|&rarest| rarest > 0) {
+            write!(
+                f,
+                "; each two conditions failing at once: {rarest} or more, with 7"
+            )?;
+            let with_7 = self
+                .pairs()
+                .filter(|&(told, later, _)| told == 7 || later == 7);
+            for (told, later, count) in with_7 {
+                write!(f, " {told}&{later}: {count}")?;
+            }
         }
         list(f, "; refusals", &self.refused)?;
         self.misreferences.fmt(f)?;
         list(f, "; sheets by c + L", &self.sizes)?;
-        self.sharing.fmt(f)
+        self.sharing.fmt(f)?;
+        self.inclusions.fmt(f)
     }
 }
 

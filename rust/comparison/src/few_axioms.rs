@@ -1,7 +1,8 @@
 //! Sheets of a few axioms whose restrictions work against one another, so that
-//! dominoes go step by step.
+//! dominoes go step by step; about half of them have role inclusions too.
 
 use crate::copies;
+use crate::inclusions;
 use crate::made_up::{Sheet, MAX_RECORDS};
 use crate::random::Random;
 use reference::domino::Shape;
@@ -54,6 +55,8 @@ struct Writer<'a> {
     restrictions: Vec<u8>,
     /// Whether they are.
     copying: bool,
+    /// Times that role inclusions are still added.
+    inclusions: usize,
 }
 
 impl<'a> Writer<'a> {
@@ -61,6 +64,10 @@ impl<'a> Writer<'a> {
         let roles = random.pick(&[0, 1, 1, 1, 1, 1, 2, 2, 3, 4]).min(size);
         let names = random.below((size - roles).min(3) + 1);
         let copying = !random.one_in(3);
+        let inclusions = match roles {
+            0 => 0,
+            _ => random.pick(&[0, 0, 0, 1, 1, 2]),
+        };
         Writer {
             random,
             sheet: Sheet::default(),
@@ -69,12 +76,16 @@ impl<'a> Writer<'a> {
             room: size - roles - names,
             restrictions: Vec::new(),
             copying,
+            inclusions,
         }
     }
 
     fn axioms(mut self) -> Vec<u8> {
         let most = 1 + self.random.below(5);
         for axiom in 0..30 {
+            if self.inclusions > 0 && self.random.one_in(2) {
+                self.include();
+            }
             let left = match self.random.below(4) {
                 0 | 1 => self.sheet.push(&[0x01]),
                 2 => self.leaf(),
@@ -90,7 +101,15 @@ impl<'a> Writer<'a> {
                 break;
             }
         }
+        while self.inclusions > 0 {
+            self.include();
+        }
         self.sheet.bytes
+    }
+
+    fn include(&mut self) {
+        self.inclusions -= 1;
+        inclusions::add(&mut self.sheet, self.roles, self.random);
     }
 
     fn leaf(&mut self) -> u8 {

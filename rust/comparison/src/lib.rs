@@ -6,6 +6,7 @@ pub mod copies;
 pub mod damage;
 pub mod dominoes;
 pub mod few_axioms;
+pub mod inclusions;
 pub mod made_up;
 pub mod misreference;
 pub mod owl;

@@ -1,6 +1,7 @@
 //! Sheets without a faulty record, built record by record.
 
 use crate::copies;
+use crate::inclusions;
 use crate::random::Random;
 
 pub const MAX_RECORDS: usize = 255;
@@ -153,6 +154,13 @@ impl Sheet {
         self.role(&[0x12, u], !holds);
     }
 
+    /// An inclusion of a role that fails on the empty role set in any other.
+    fn inclusion(&mut self, random: &mut Random) {
+        let first = self.roles.take(random);
+        let (second, _) = self.take_role(random);
+        self.push(&[inclusions::KIND, first, second]);
+    }
+
     fn boolean_role(&mut self, random: &mut Random) {
         let (u, on_u) = self.take_role(random);
         let (v, on_v) = self.take_role(random);
@@ -176,9 +184,10 @@ enum Step {
     NotRole,
     BooleanRole,
     Axiom,
+    Inclusion,
 }
 
-const STEPS: [Step; 9] = [
+const STEPS: [Step; 10] = [
     Step::Leaf,
     Step::LeafRole,
     Step::Not,
@@ -188,6 +197,7 @@ const STEPS: [Step; 9] = [
     Step::NotRole,
     Step::BooleanRole,
     Step::Axiom,
+    Step::Inclusion,
 ];
 
 /// What one made-up sheet is to be like.
@@ -198,6 +208,7 @@ struct Plan {
     restrictions: usize,
     /// Claims that are made again and again.
     claims: usize,
+    inclusions: usize,
     /// Steps, the frequent ones more than once.
     steps: Vec<Step>,
     /// Whether axioms are to reach what would stay unused.
@@ -217,6 +228,7 @@ impl Plan {
             records: record_count(random),
             restrictions: restriction_count(random, 12 - names - roles),
             claims: claim_count(random, roles),
+            inclusions: inclusion_count(random, roles),
             steps: steps(random),
             reach_all: !random.one_in(4),
         }
@@ -237,6 +249,7 @@ fn small_plan(most: usize, random: &mut Random) -> Plan {
         },
         restrictions: 1 + random.below(most - roles - names + 1),
         claims: claim_count(random, roles),
+        inclusions: inclusion_count(random, roles),
         steps: steps(random),
         reach_all: !random.one_in(6),
     }
@@ -268,6 +281,17 @@ fn claim_count(random: &mut Random, roles: usize) -> usize {
     match random.below(4) {
         0 => 2 + random.below(3),
         _ => 1,
+    }
+}
+
+/// None in half of the sheets, and where there is no role.
+fn inclusion_count(random: &mut Random, roles: usize) -> usize {
+    if roles == 0 || random.one_in(2) {
+        return 0;
+    }
+    match random.below(12) {
+        0 => 1 + random.below(30),
+        _ => 1 + random.below(3),
     }
 }
 
@@ -332,6 +356,9 @@ fn by_plan(mut plan: Plan, random: &mut Random) -> Sheet {
     for _ in 0..plan.claims {
         repeat_claim(&mut sheet, &plan, random);
     }
+    if plan.inclusions > 0 && sheet.starts.len() + inclusions::MOST <= MAX_RECORDS {
+        inclusions::add(&mut sheet, plan.roles, random);
+    }
     if plan.reach_all {
         reach_all(&mut sheet, random);
     }
@@ -348,6 +375,10 @@ fn add(sheet: &mut Sheet, step: Step, plan: &mut Plan, random: &mut Random) {
         Step::Not if !no_concept => add_nots(sheet, plan.records, random),
         Step::Boolean if !no_concept => sheet.boolean(random),
         Step::Axiom if !no_concept => sheet.axiom(random),
+        Step::Inclusion if !no_role && plan.inclusions > 0 => {
+            plan.inclusions -= 1;
+            sheet.inclusion(random);
+        }
         Step::Restriction if !no_concept && !no_role && plan.restrictions > 0 => {
             plan.restrictions -= 1;
             sheet.restriction(random);

@@ -2,6 +2,7 @@
 
 use crate::dominoes::list;
 use crate::hex::Hex;
+use crate::inclusions;
 use crate::misreference;
 use crate::random::Random;
 use crate::sharing::Sharing;
@@ -19,6 +20,7 @@ pub struct Tally {
     pub comparisons: u64,
     pub accepted: u64,
     pub sharing: Sharing,
+    pub inclusions: inclusions::Tally,
     /// By the number of the refusal.
     pub refused: [u64; REFUSALS],
     /// Those of a reference.
@@ -37,11 +39,13 @@ impl Tally {
             Ok(counts) => {
                 self.accepted += 1;
                 self.sharing.count(sheet, counts);
+                self.inclusions.count(sheet);
                 counts.marks as usize
             }
             Err(refusal) => {
                 self.refused[refusal.number as usize] += 1;
                 self.misreferences.count(sheet, refusal);
+                self.inclusions.count_refusal(sheet, refusal);
                 random.below(13)
             }
         };
@@ -98,6 +102,7 @@ impl fmt::Display for Tally {
         )?;
         list(f, "; refusals", &self.refused)?;
         self.misreferences.fmt(f)?;
-        self.sharing.fmt(f)
+        self.sharing.fmt(f)?;
+        self.inclusions.fmt(f)
     }
 }

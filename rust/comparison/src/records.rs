@@ -1,4 +1,5 @@
-//! The kinds of records, by document 01's table, and a walk by them.
+//! The kinds of records, by document 01's table and document 02's N8, and a walk
+//! by them.
 
 /// What a reference wants.
 #[derive(Clone, Copy, Debug, PartialEq, Eq)]
@@ -10,7 +11,7 @@ pub enum Sort {
 use Sort::{Concept, Role};
 
 /// The kinds with references, each with what these want, first to last.
-pub const REFERRING: [(u8, &[Sort]); 9] = [
+pub const REFERRING: [(u8, &[Sort]); 10] = [
     (0x04, &[Concept]),
     (0x05, &[Concept, Concept]),
     (0x06, &[Concept, Concept]),
@@ -20,6 +21,7 @@ pub const REFERRING: [(u8, &[Sort]); 9] = [
     (0x13, &[Role, Role]),
     (0x14, &[Role, Role]),
     (0x20, &[Concept, Concept]),
+    (0x21, &[Role, Role]),
 ];
 
 /// What the references of a kind want.
@@ -51,7 +53,7 @@ pub fn body_length(kind: u8) -> Option<usize> {
     match kind {
         0x01 | 0x02 => Some(0),
         0x03 | 0x04 | 0x10..=0x12 => Some(1),
-        0x05..=0x08 | 0x13 | 0x14 | 0x20 => Some(2),
+        0x05..=0x08 | 0x13 | 0x14 | 0x20 | 0x21 => Some(2),
         _ => None,
     }
 }

@@ -263,10 +263,13 @@ pub fn small_dominoes(engine: &impl Judging) -> Tally {
     }
     assert!(4 * tally.unmet >= tally.sheets && 10 * tally.unmet_in_steps >= tally.sheets);
     assert!(6 * tally.sharing.shared >= tally.sheets, "{tally}");
+    assert!(3 * tally.inclusions.with >= tally.sheets, "{tally}");
+    assert!(3 * tally.inclusions.without >= tally.sheets, "{tally}");
     assert!(tally.struck[1..].iter().all(|&count| count >= 500));
-    for (told, also) in (1..).zip(&tally.struck_and[1..]) {
-        let all_seen = also[told + 1..].iter().all(|&count| count >= 20);
-        assert!(all_seen, "struck by {told}, a later one failing: {also:?}");
+    for (told, later, count) in tally.pairs() {
+        let with_7 = told == 7 || later == 7;
+        let often = if with_7 { 100 } else { 20 };
+        assert!(count >= often, "{told} told, {later} too: {tally}");
     }
     tally
 }
@@ -309,6 +312,8 @@ pub fn damaged_dominoes(engine: &impl Judging) -> Tally {
     for number in (1..=11).chain([16, 17]) {
         assert!(tally.refused[number] >= 100, "refusal {number} is rare");
     }
+    assert!(tally.inclusions.on_empty >= 100, "{tally}");
+    assert!(tally.inclusions.named >= 100, "{tally}");
     tally
 }
 
@@ -344,8 +349,8 @@ pub fn listed_calls(engine: &impl Judging) -> Tally {
         let passes = if size <= 3 { 64 } else { 20 };
         sequences::compare(&mut tally, engine, &sheet, passes, &mut random);
     }
-    // What was opened meets the conditions 1 to 3 for good.
-    assert_eq!(tally.struck[..4], [0; 4]);
-    assert!(tally.struck[4..].iter().all(|&count| count >= 500));
+    // What was opened meets the conditions 1 to 3 and 7 for good.
+    assert_eq!((&tally.struck[..4], tally.struck[7]), (&[0; 4][..], 0));
+    assert!(tally.struck[4..7].iter().all(|&count| count >= 500));
     tally
 }

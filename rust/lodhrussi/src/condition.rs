@@ -1,7 +1,7 @@
 use std::fmt;
 
-/// The condition that a struck domino failed: the first, in document 01's
-/// order. Displayed as a sentence in document 01's words.
+/// The condition that a struck domino failed: the first, in the order of
+/// [`ALL`](Self::ALL). Displayed as a sentence in document 01's words.
 ///
 /// ```
 /// use lodhrussi::Condition;
@@ -21,6 +21,9 @@ pub enum Condition {
     /// 3: the right label has the filler of each universal restriction of the
     /// left label whose role holds between the two.
     Uni,
+    /// 7, tested before 4: where the first role of a role inclusion holds between
+    /// the two, so does the second.
+    Rbox,
     /// 4: the set has a witness for each existential restriction of the left
     /// label.
     Delex,
@@ -33,35 +36,38 @@ pub enum Condition {
 
 impl Condition {
     /// All of them, in the order in which they are tested.
-    pub const ALL: [Condition; 6] = [
+    pub const ALL: [Condition; 7] = [
         Condition::Kb,
         Condition::Ex,
         Condition::Uni,
+        Condition::Rbox,
         Condition::Delex,
         Condition::Deluni,
         Condition::Sym,
     ];
 
-    /// Document 01's number of it, 1 to 6.
+    /// Its number in documents 01 and 02, 1 to 7.
     #[must_use]
     pub fn number(self) -> u64 {
         match self {
             Condition::Kb => 1,
             Condition::Ex => 2,
             Condition::Uni => 3,
+            Condition::Rbox => 7,
             Condition::Delex => 4,
             Condition::Deluni => 5,
             Condition::Sym => 6,
         }
     }
 
-    /// Document 01's name of it.
+    /// Document 01's name of it; 7 has that of the axioms it is about.
     #[must_use]
     pub fn name(self) -> &'static str {
         match self {
             Condition::Kb => "kb",
             Condition::Ex => "ex",
             Condition::Uni => "uni",
+            Condition::Rbox => "rbox",
             Condition::Delex => "delex",
             Condition::Deluni => "deluni",
             Condition::Sym => "sym",
@@ -81,6 +87,7 @@ impl fmt::Display for Condition {
             Condition::Kb => "The left side breaks a rule of the sheet.",
             Condition::Ex => "The left side lacks a 'some' claim that the right side meets.",
             Condition::Uni => "The right side breaks an 'only' claim of the left side.",
+            Condition::Rbox => "The links between the two sides break a link rule of the sheet.",
             Condition::Delex => "A partner for a 'some' claim is missing.",
             Condition::Deluni => {
                 "The left side lacks an 'only' claim, and a partner that would break it is missing."
@@ -98,12 +105,13 @@ mod tests {
     #[test]
     fn each_condition_has_its_number_its_name_and_its_own_sentence() {
         let numbers = Condition::ALL.map(Condition::number);
-        assert_eq!(numbers, [1, 2, 3, 4, 5, 6]);
+        assert_eq!(numbers, [1, 2, 3, 7, 4, 5, 6]);
         let names = Condition::ALL.map(Condition::name);
-        assert_eq!(names, ["kb", "ex", "uni", "delex", "deluni", "sym"]);
+        let expected = ["kb", "ex", "uni", "rbox", "delex", "deluni", "sym"];
+        assert_eq!(names, expected);
         assert_eq!(numbers.map(Condition::of), Condition::ALL);
         let sentences: HashSet<String> = Condition::ALL.iter().map(ToString::to_string).collect();
-        assert_eq!(sentences.len(), 6);
+        assert_eq!(sentences.len(), 7);
         assert!(sentences.iter().all(|sentence| sentence.ends_with('.')));
     }
 }

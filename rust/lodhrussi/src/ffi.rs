@@ -29,7 +29,7 @@ extern "C" {
         size: *mut u64,
     ) -> u64;
 
-    /// The verdict is 0 Absent, 1 Struck, 2 Kept; the condition 1 to 6.
+    /// The verdict is 0 Absent, 1 Struck, 2 Kept; the condition 1 to 7.
     pub fn lodhrussi_strike(
         sheet: *const u8,
         n: usize,

@@ -1,9 +1,9 @@
-//! Reads, flattens and judges knowledge bases of the description logic ALCIb,
-//! and takes them from and to OWL 2 functional-style syntax, by calls into the
-//! static library `capi`.
+//! Reads, flattens and judges knowledge bases of the description logic ALCIb
+//! with role inclusions, and takes them from and to OWL 2 functional-style
+//! syntax, by calls into the static library `capi`.
 //!
-//! The bytes of a knowledge base are called a sheet: records of concepts, roles
-//! and axioms, each record naming earlier ones.
+//! The bytes of a knowledge base are called a sheet: records of concepts, roles,
+//! axioms and role inclusions, each record naming earlier ones.
 //!
 //! Judging goes by dominoes: a domino is two labels (sets of parts, one for
 //! each of two individuals) and the set of roles between them. The canonical

@@ -85,7 +85,8 @@ pub fn imported(text: &[u8]) -> Result<Vec<u8>, Refusal> {
 /// # Errors
 ///
 /// The refusals of [`read`](crate::read), then 20 for the first axiom that
-/// reaches a role with not, and, or, then 21 if `out` is too short.
+/// reaches a role with not, and, or, or the first role inclusion, whichever comes
+/// first, then 21 if `out` is too short.
 ///
 /// ```
 /// let sheet = [0x03, 0, 0x03, 1, 0x20, 0, 1];

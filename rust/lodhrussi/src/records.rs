@@ -21,7 +21,7 @@ pub enum Sort {
     Concept,
     /// Displayed as link.
     Role,
-    /// Displayed as rule.
+    /// An axiom or a role inclusion. Displayed as rule.
     Axiom,
 }
 
@@ -53,7 +53,7 @@ pub struct Kind {
     /// The byte that a record of this kind starts with.
     pub byte: u8,
     pub sort: Sort,
-    /// In document 01's words.
+    /// In the words of documents 01 and 02.
     pub words: &'static str,
     pub body: &'static [Field],
 }
@@ -70,7 +70,7 @@ const OF_BOTH: &[Field] = &[
 ];
 
 /// Every kind.
-pub static KINDS: [Kind; 14] = [
+pub static KINDS: [Kind; 15] = [
     kind(0x01, Sort::Concept, "everything", &[]),
     kind(0x02, Sort::Concept, "nothing", &[]),
     kind(0x03, Sort::Concept, "trait", NAME),
@@ -85,10 +85,11 @@ pub static KINDS: [Kind; 14] = [
     kind(0x13, Sort::Role, "and of links", OF_ROLES),
     kind(0x14, Sort::Role, "or of links", OF_ROLES),
     kind(0x20, Sort::Axiom, "rule", OF_CONCEPTS),
+    kind(0x21, Sort::Axiom, "link rule", OF_ROLES),
 ];
 
 /// The bytes of [`KINDS`].
-pub const KIND_BYTES: &str = "01 to 08, 10 to 14 and 20";
+pub const KIND_BYTES: &str = "01 to 08, 10 to 14, 20 and 21";
 
 const fn kind(byte: u8, sort: Sort, words: &'static str, body: &'static [Field]) -> Kind {
     Kind {
@@ -277,6 +278,9 @@ mod tests {
             ("rule", Some(Sort::Axiom), vec![0x20, 1]),
         ];
         assert!(records(&sheet[..4]).map(told).eq(expected));
+        let inclusion = records(&[0x21, 0, 1]).map(told).next();
+        let expected = ("link rule", Some(Sort::Axiom), vec![0x21, 0, 1]);
+        assert_eq!(inclusion, Some(expected));
         let unknown = records(&[0x09, 1]).map(told).next();
         assert_eq!(unknown, Some(("no known kind", None, vec![0x09])));
     }
@@ -291,6 +295,9 @@ mod tests {
         };
         let expected = [reference(2, 3, Sort::Role), reference(3, 4, Sort::Concept)];
         assert!(some.references().eq(expected));
+        let inclusion = records(&[0x21, 1, 0]).last().expect("a record");
+        let expected = [reference(1, 1, Sort::Role), reference(2, 0, Sort::Role)];
+        assert!(inclusion.references().eq(expected));
         let name = records(&[0x03, 0]).last().expect("a record");
         assert_eq!(name.references().count(), 0);
     }
@@ -298,9 +305,12 @@ mod tests {
     #[test]
     fn kinds_have_their_own_bytes_and_words() {
         let bytes: Vec<u8> = KINDS.iter().map(|kind| kind.byte).collect();
-        let known: Vec<u8> = (0x01..=0x08).chain(0x10..=0x14).chain([0x20]).collect();
+        let known: Vec<u8> = (0x01..=0x08)
+            .chain(0x10..=0x14)
+            .chain([0x20, 0x21])
+            .collect();
         assert_eq!(bytes, known);
-        assert_eq!(KIND_BYTES, "01 to 08, 10 to 14 and 20");
+        assert_eq!(KIND_BYTES, "01 to 08, 10 to 14, 20 and 21");
         let words: HashSet<&str> = KINDS.iter().map(|kind| kind.words).collect();
         assert_eq!(words.len(), KINDS.len());
     }

@@ -1,7 +1,7 @@
 //! The calls about domino sets, against the independent reference.
 
 use comparison::suites::{self, report};
-use comparison::{misreference, Judging};
+use comparison::{inclusions, misreference, Judging};
 use lodhrussi::Call;
 use reference::{Judgement, Refusal, Strike, Verdict};
 
@@ -88,6 +88,12 @@ fn damaged_sheets() {
 fn faulty_references() {
     let tally = misreference::suites::made_up_dominoes(&Product);
     report("faulty references", &tally);
+}
+
+#[test]
+fn role_inclusions() {
+    let tally = inclusions::suites::against_axioms(&Product);
+    report("role inclusions", &tally);
 }
 
 #[test]

@@ -37,6 +37,7 @@ pub(crate) enum Fault {
     /// A role is named where a concept is wanted.
     RoleForConcept = 6,
     NamedTwice = 7,
+    /// The role of a restriction, or the first of an inclusion, does.
     HoldsOnEmptySet = 8,
     TooManyParts = 9,
     SetTooShort = 10,
@@ -48,7 +49,7 @@ pub(crate) enum Fault {
     UnknownWord = 18,
     /// A word or parenthesis stands where it cannot, or a text ends in a form.
     CannotStand = 19,
-    /// An axiom has a role with not, and, or.
-    BooleanRole = 20,
+    /// An axiom has a role with not, and, or, or there is a role inclusion.
+    NoText = 20,
     OutputTooShort = 21,
 }

@@ -2,7 +2,7 @@
 
 use crate::fault::Refusal;
 use crate::sharing::Sharing;
-use crate::written::{Axiom, Concept, Role, Written};
+use crate::written::{Axiom, Concept, Inclusion, Role, Written};
 use std::collections::VecDeque;
 use std::rc::Rc;
 
@@ -80,6 +80,8 @@ pub struct FlatKb {
     pub roles: usize,
     pub parts: Vec<Part>,
     pub axioms: Vec<Formula>,
+    /// As written: flattening leaves them as they are.
+    pub inclusions: Vec<Inclusion>,
 }
 
 /// Reads and flattens a sheet.
@@ -118,6 +120,7 @@ fn flatten_by(sheet: &[u8], sharing: Sharing) -> Result<FlatKb, Refusal> {
         roles: counts.links as usize,
         parts: flattening.parts,
         axioms,
+        inclusions: written.inclusions,
     })
 }
 

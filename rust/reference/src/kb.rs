@@ -30,12 +30,15 @@ pub(crate) enum Record {
     RoleOr(u8, u8),
     /// Every first is second.
     Axiom(u8, u8),
+    /// Wherever the first role holds, so does the second.
+    Inclusion(u8, u8),
 }
 
 #[derive(Clone, Copy, PartialEq, Eq)]
 enum Sort {
     Concept,
     Role,
+    /// An axiom or a role inclusion.
     Axiom,
 }
 
@@ -44,7 +47,7 @@ impl Record {
         match self {
             Record::Role(_) | Record::Inverse(_) => Sort::Role,
             Record::RoleNot(_) | Record::RoleAnd(..) | Record::RoleOr(..) => Sort::Role,
-            Record::Axiom(..) => Sort::Axiom,
+            Record::Axiom(..) | Record::Inclusion(..) => Sort::Axiom,
             _ => Sort::Concept,
         }
     }
@@ -184,6 +187,7 @@ impl Kb {
             0x13 => self.boolean_role(body, Record::RoleAnd, |u, v| u && v),
             0x14 => self.boolean_role(body, Record::RoleOr, |u, v| u || v),
             0x20 => self.of_concepts(body, Record::Axiom),
+            0x21 => self.inclusion(body),
             _ => Err(Fault::UnknownKind.into()),
         }
     }
@@ -256,6 +260,16 @@ impl Kb {
             return Err(Fault::HoldsOnEmptySet.into());
         }
         Ok((record(role, filler), rest))
+    }
+
+    fn inclusion<'a>(&mut self, body: &'a [u8]) -> Result<(Record, &'a [u8]), Misread> {
+        let (&[first, second], rest) = take(body)?;
+        self.refer_to(FIRST, first, Sort::Role)?;
+        self.refer_to(SECOND, second, Sort::Role)?;
+        if self.holds_on_empty(first) {
+            return Err(Fault::HoldsOnEmptySet.into());
+        }
+        Ok((Record::Inclusion(first, second), rest))
     }
 
     /// Checks and notes that the record being read names `target`, by the

@@ -1,6 +1,6 @@
 //! An independent reader, flattener and judge of knowledge bases (ALCIb,
-//! description logic with inverse and Boolean roles), written from documents 01
-//! and 02 alone.
+//! description logic with inverse and Boolean roles, and role inclusions),
+//! written from documents 01 and 02 alone.
 //!
 //! The bytes of a knowledge base are called a sheet. [`read`] checks a sheet
 //! and counts; [`list_marks`] also lists the parts of the flattened knowledge

@@ -1,4 +1,5 @@
-//! A knowledge base as written: its axioms as trees of concepts and roles.
+//! A knowledge base as written: its axioms and role inclusions as trees of
+//! concepts and roles.
 
 use crate::fault::Refusal;
 use crate::kb::Kb;
@@ -38,12 +39,20 @@ pub struct Axiom {
     pub right: Rc<Concept>,
 }
 
+/// A role inclusion: wherever `first` holds between two, so does `second`
+/// (document 02: kind 21).
+#[derive(Clone, Debug, PartialEq, Eq)]
+pub struct Inclusion {
+    pub first: Rc<Role>,
+    pub second: Rc<Role>,
+}
+
 /// The tree of one record.
 #[derive(Clone, Debug, PartialEq, Eq)]
 enum Tree {
     Concept(Rc<Concept>),
     Role(Rc<Role>),
-    /// Never named.
+    /// Of an axiom or a role inclusion: never named.
     Axiom,
 }
 
@@ -56,6 +65,10 @@ pub struct Written {
     pub axioms: Vec<Axiom>,
     /// The byte where the record of each axiom starts.
     pub starts: Vec<usize>,
+    /// In the sheet's order.
+    pub inclusions: Vec<Inclusion>,
+    /// The byte where the record of each inclusion starts.
+    pub inclusion_starts: Vec<usize>,
 }
 
 impl Written {
@@ -70,16 +83,13 @@ impl Written {
         let mut rest = sheet.iter().copied();
         while let Some(kind) = rest.next() {
             let start = sheet.len() - rest.len() - 1;
-            written.add(kind, &mut rest);
-            if written.starts.len() < written.axioms.len() {
-                written.starts.push(start);
-            }
+            written.add(kind, start, &mut rest);
         }
         Ok(written)
     }
 
-    /// Adds a record, its body taken from `rest`.
-    fn add(&mut self, kind: u8, rest: &mut impl Iterator<Item = u8>) {
+    /// Adds the record that starts at a byte, its body taken from `rest`.
+    fn add(&mut self, kind: u8, start: usize, rest: &mut impl Iterator<Item = u8>) {
         let mut next = || usize::from(rest.next().expect("a whole body"));
         let tree = match kind {
             0x01 => concept(Concept::Top),
@@ -95,9 +105,16 @@ impl Written {
             0x12 => role(Role::Not(self.role(next()))),
             0x13 => role(Role::And(self.role(next()), self.role(next()))),
             0x14 => role(Role::Or(self.role(next()), self.role(next()))),
-            _ => {
+            0x20 => {
                 let (left, right) = (self.concept(next()), self.concept(next()));
                 self.axioms.push(Axiom { left, right });
+                self.starts.push(start);
+                Tree::Axiom
+            }
+            _ => {
+                let (first, second) = (self.role(next()), self.role(next()));
+                self.inclusions.push(Inclusion { first, second });
+                self.inclusion_starts.push(start);
                 Tree::Axiom
             }
         };

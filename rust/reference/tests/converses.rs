@@ -9,7 +9,7 @@ use reference::{judge, open, read};
 use std::collections::HashSet;
 use std::fmt;
 
-const SHEETS: u64 = 24_000;
+const SHEETS: u64 = 30_000;
 
 /// What parts and roles come to at most.
 const MOST: usize = 6;

@@ -105,10 +105,15 @@ impl Interpretation {
 
     fn satisfies(&self, written: &Written) -> bool {
         let holds = |left, right| self.concept(left) & !self.concept(right) == 0;
-        written
-            .axioms
-            .iter()
-            .all(|axiom| holds(&axiom.left, &axiom.right))
+        let mut axioms = written.axioms.iter();
+        axioms.all(|axiom| holds(&axiom.left, &axiom.right)) && self.includes(written)
+    }
+
+    /// Whether each role inclusion holds of every ordered pair.
+    fn includes(&self, written: &Written) -> bool {
+        let holds = |first, second| self.role(first) & !self.role(second) == 0;
+        let mut inclusions = written.inclusions.iter();
+        inclusions.all(|inclusion| holds(&inclusion.first, &inclusion.second))
     }
 
     /// The label of an individual: a listed record counts as what it is as
@@ -161,6 +166,10 @@ struct Tally {
     met: u64,
     /// Sheets of which a model was seen.
     modelled: u64,
+    /// Of these: sheets with role inclusions.
+    modelled_with_inclusions: u64,
+    /// Models of sheets with role inclusions.
+    models_with_inclusions: u64,
 }
 
 impl Tally {
@@ -197,7 +206,16 @@ impl Tally {
         }
         self.sheets += 1;
         self.met += u64::from(judgement.met);
-        self.modelled += u64::from(self.models > models_before);
+        self.count(&written, self.models - models_before);
+    }
+
+    /// Counts a sheet of which so many models were seen.
+    fn count(&mut self, written: &Written, models: u64) {
+        self.modelled += u64::from(models > 0);
+        if !written.inclusions.is_empty() {
+            self.modelled_with_inclusions += u64::from(models > 0);
+            self.models_with_inclusions += models;
+        }
     }
 }
 
@@ -216,8 +234,15 @@ impl fmt::Display for Tally {
         write!(
             f,
             "{} interpretations of {} sheets ({} met, {} with a model seen): \
-             {} models, {} dominoes of theirs found",
-            self.interpretations, self.sheets, self.met, self.modelled, self.models, self.dominoes
+             {} models, {} dominoes of theirs found; {} models of {} sheets with role inclusions",
+            self.interpretations,
+            self.sheets,
+            self.met,
+            self.modelled,
+            self.models,
+            self.dominoes,
+            self.models_with_inclusions,
+            self.modelled_with_inclusions
         )
     }
 }
@@ -238,4 +263,5 @@ fn the_dominoes_of_every_small_model_are_judged_in() {
         tally.check(&sheet, &mut random);
     }
     report("interpretations", &tally);
+    assert!(tally.modelled_with_inclusions >= 500, "{tally}");
 }

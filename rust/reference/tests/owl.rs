@@ -1,7 +1,7 @@
 //! Document 02's texts and sheets, and sheets that are exported and imported
 //! again.
 
-use comparison::owl::{suites, text, without_boolean_roles};
+use comparison::owl::{suites, text, with_text};
 use comparison::random::Random;
 use comparison::Reference;
 use reference::owl::{axioms, export, import};
@@ -25,7 +25,7 @@ fn axioms_stay_as_they_are() {
     let mut random = Random::seeded(35);
     let (mut sheets, mut out) = (0, [0; 1 << 14]);
     for _ in 0..1_000 {
-        let sheet = without_boolean_roles(&mut random);
+        let sheet = with_text(&mut random);
         let written = Written::read(&sheet).expect("a sheet without faults");
         let length = export(&sheet, &mut out).expect("no Boolean role");
         let text = out[..length].to_vec();

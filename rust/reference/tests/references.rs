@@ -16,7 +16,7 @@ fn fixed_sheets() {
 #[test]
 fn every_case_has_a_row() {
     let mut cases = Case::all();
-    assert_eq!(cases.len(), 64);
+    assert_eq!(cases.len(), 72);
     for (hex, number, place) in FAULTY {
         let sheet = [from_hex(BEFORE), from_hex(hex)].concat();
         let (kind, which) = reference_at(&sheet, place as usize).expect(hex);

@@ -3,7 +3,7 @@ use mathlib.Core.Path.{refl}
 use native.Mathlib.Omega.{arith}
 use borrow.Author.Rules.{rules}
 use Rattle.std.proofs.lemmas.Result.{err_from_is_err_and}
-use Rattle.owl_export.proofs.Exporting.{export_refused, export_composed, export_short, export_written}
+use Rattle.owl_export.proofs.Exporting.{export_refused, export_beyond, export_short, export_written}
 use Rattle.owl_export.proofs.export.Goals as goal
 
 pub returns-in_err-read : goal.returns-in_err-read
@@ -12,7 +12,7 @@ returns-in_err-read c =
     rw (p.1, p.2) (export_refused _ _ _ c.in_err-read.ensures)
 
 pub returns-in-Some : goal.returns-in-Some
-returns-in-Some c = export_composed _ _ _ _ c.in_ok-read.ensures _ c.in-Some.ensures _ c.at.ensures.0 c.at.ensures.1
+returns-in-Some c = export_beyond _ _ _ _ c.in_ok-read.ensures _ c.in-Some.ensures _ c.at.ensures.0 c.at.ensures.1
 
 pub returns-in_default-axioms : goal.returns-in_default-axioms
 returns-in_default-axioms c =

@@ -10,7 +10,7 @@ const ROWS: &[(&str, &str, &str)] = &[
         "01 10 00 09 01",
         "refused 1 at byte 3",
         "  record 2 at byte 3:  09  no known kind
-                       ^^  kind: found 09; wanted 01 to 08, 10 to 14 and 20
+                       ^^  kind: found 09; wanted 01 to 08, 10 to 14, 20 and 21
 ",
     ),
     (
@@ -212,6 +212,35 @@ const ROWS: &[(&str, &str, &str)] = &[
          which holds on the empty set of links; wanted a link that fails there
 ",
     ),
+    (
+        "10 00 12 00 21 01 00",
+        "refused 8 at byte 4",
+        "  record 2 at byte 4:  21 01 00  link rule
+                       ^^^^^^^^  found the first link not k0, \
+         which holds on the empty set of links; wanted a link that fails there
+",
+    ),
+    (
+        "10 00 21 00",
+        "refused 2 at byte 2",
+        "  record 1 at byte 2:  21 00 ..  link rule
+                             ^^  found the end of the sheet; wanted a link
+",
+    ),
+    (
+        "10 00 01 21 00 01",
+        "refused 16 at byte 5",
+        "  record 2 at byte 3:  21 00 01  link rule
+                             ^^  second reference: found record 1, a class; wanted a link
+",
+    ),
+    (
+        "10 00 21 00 00 12 01",
+        "refused 17 at byte 6",
+        "  record 2 at byte 5:  12 01  not of a link
+                          ^^  only reference: found record 1, a rule; wanted a link
+",
+    ),
     ("03 0B 10 00", "refused 9", ""),
 ];
 
@@ -266,12 +295,26 @@ fn names_are_put_into_a_role() {
     let names = Names::parse("k0 = is fed by").expect("a name");
     let (_, picture) = drawn(&from_hex("10 00 12 00 01 07 01 02"), &names);
     let expected = "bad.hex: refused 8 at byte 5
-The record at byte 5 is a some or only whose link holds on the empty set of links; \
-it must fail there. Byte 5 is 07 (some) and begins record 3: \
+The record at byte 5 is a some, only or link rule whose first link holds on the empty set of \
+links. Byte 5 is 07 (some) and begins record 3: \
 its link, named at byte 6, is record 1 (12, not of a link, at byte 2).
   record 3 at byte 5:  07 01 02  some
                        ^^^^^^^^  found the link not 'is fed by', \
 which holds on the empty set of links; wanted a link that fails there
+";
+    assert_eq!(picture, expected);
+}
+
+#[test]
+fn a_link_rule_has_no_text() {
+    let sheet = from_hex("01 10 00 21 01 01 20 00 00");
+    let refusal = lodhrussi::export(&sheet, &mut []).expect_err("a link rule");
+    let picture = picture("bad.hex", &sheet, &refusal, &Names::default());
+    let expected = "bad.hex: refused 20 at byte 3
+The rule at byte 3 is a link rule or has a link with not, and, or; the text of a sheet has neither. \
+Byte 3 is 21 (link rule) and begins record 2.
+  record 2 at byte 3:  21 01 01  link rule
+                       ^^^^^^^^  found a link rule; wanted a rule about classes
 ";
     assert_eq!(picture, expected);
 }

@@ -3,7 +3,7 @@ use crate::names::Names;
 use comparison::damage::damaged;
 use comparison::made_up;
 use comparison::random::Random;
-use comparison::worked::{from_hex, S3, S4, S6};
+use comparison::worked::{from_hex, N8, S3, S4, S6};
 
 /// What is shown of a sheet.
 fn shown(bytes: &[u8], names: &str, json: bool) -> (String, Status) {
@@ -132,6 +132,45 @@ mark  kind   record  nots  stands for
 }
 
 #[test]
+fn a_sheet_with_a_link_rule() {
+    let expected = "sheet.hex: 21 bytes, 9 records
+record  byte  bytes     kind            stands for
+     0     0  01        everything      everything
+     1     1  10 00     link as named   feeds
+     2     3  10 01     link as named   supplies
+     3     5  02        nothing         nothing
+     4     6  07 01 00  some            some feeds . everything
+     5     9  20 00 04  rule            every everything is some feeds . everything
+     6    12  08 02 03  only            only supplies . nothing
+     7    15  20 00 06  rule            every everything is only supplies . nothing
+     8    18  21 01 02  link rule       feeds within supplies
+
+rules
+  every everything is some feeds . everything
+  every everything is only supplies . nothing
+  feeds within supplies
+
+traits 0, links 2, marks 2
+mark  kind   record  nots  stands for
+   0  some        4  even  some feeds . everything
+   1  only        6  even  only supplies . nothing
+";
+    let names = "k0 = feeds\nk1 = supplies";
+    assert_shown(N8, names, Status::Answered, expected);
+    let fields = [
+        r#""answer":"shown","bytes":9,"records":[{"record":0,"byte":0,"bytes":"10 00""#,
+        r#""kind":"link as named","text":"k0","used":true},{"record":1,"byte":2"#,
+        r#""bytes":"11 00","kind":"link reversed","text":"k0 reversed","used":true}"#,
+        r#"{"record":2,"byte":4,"bytes":"12 01","kind":"not of a link""#,
+        r#""text":"not k0 reversed","used":true},{"record":3,"byte":6,"bytes":"21 00 02""#,
+        r#""kind":"link rule","text":"k0 within not k0 reversed","used":true}]"#,
+        r#""rules":["k0 within not k0 reversed"],"traits":0,"links":1,"marks":0"#,
+        r#""mark_list":[]"#,
+    ];
+    assert_object("10 00 11 00 12 01 21 00 02", "", Status::Answered, &fields);
+}
+
+#[test]
 fn records_that_no_rule_reaches() {
     let hex = "03 00 03 01 04 00 04 02 10 00 20 00 01";
     let expected = "sheet.hex: 13 bytes, 6 records
@@ -212,9 +251,9 @@ record  byte  bytes     kind            stands for
 
 sheet.hex: refused 1 at byte 0
 The record at byte 0 is of no known kind. \
-Byte 0 is 00 and begins record 0; the kinds are 01 to 08, 10 to 14 and 20.
+Byte 0 is 00 and begins record 0; the kinds are 01 to 08, 10 to 14, 20 and 21.
   record 0 at byte 0:  00  no known kind
-                       ^^  kind: found 00; wanted 01 to 08, 10 to 14 and 20
+                       ^^  kind: found 00; wanted 01 to 08, 10 to 14, 20 and 21
 ";
     assert_shown("00 01 02", "", Status::Refused, expected);
 }

@@ -105,6 +105,22 @@ and a partner that would break it is missing.
 }
 
 #[test]
+fn a_pairing_that_breaks_a_link_rule_does_not_open() {
+    let expected = "1: absent
+  left marks none
+  links feeds
+  right marks none
+5: kept
+  left marks none
+  links feeds, supplies
+  right marks none
+";
+    let names = "k0 = feeds\nk1 = supplies";
+    let sheet = "10 00 10 01 21 00 01";
+    assert_told(sheet, names, &[1, 5], Status::Answered, expected);
+}
+
+#[test]
 fn fresh_names_are_told_as_their_fillers() {
     let expected = "255: absent
   left marks 'reheat coil', some feeds . not 'reheat coil', not 'reheat coil'

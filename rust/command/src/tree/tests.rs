@@ -38,6 +38,11 @@ fn each_kind_of_record() {
     assert_last("10 00 11 01 13 00 01", "k0 and k1 reversed");
     assert_last("10 00 11 01 14 00 01", "k0 or k1 reversed");
     assert_last("03 00 01 20 00 01", "every t0 is everything");
+    assert_last("10 00 10 01 21 00 01", "k0 within k1");
+    assert_last("10 00 11 00 21 01 00", "k0 reversed within k0");
+    assert_last("10 00 10 01 12 01 21 00 02", "k0 within not k1");
+    let sheet = "10 00 10 01 11 02 12 01 13 00 03 14 02 01 21 04 05";
+    assert_last(sheet, "(k0 and not k1) within (k2 reversed or k1)");
     let sheet = "10 00 10 01 12 01 13 00 02 03 00 03 01 04 05 05 04 06 07 03 07 20 04 08";
     let expected = "every t0 is some (k0 and not k1) . (t0 and not t1)";
     assert_last(sheet, expected);
@@ -52,6 +57,7 @@ fn trees_go_as_far_as_they_can() {
         ("01 04 01 02", 1),
         ("01 05 00 01 02", 1),
         ("01 02 20 01", 2),
+        ("10 00 21 00 01 01", 1),
     ] {
         assert_eq!(trees(&from_hex(hex)).len(), count, "{hex}");
     }
@@ -162,7 +168,8 @@ fn a_tree_as_deep_as_a_sheet_has_records() {
 
 #[test]
 fn made_up_sheets_are_read_back_from_their_text() {
-    let names = "t0 = reheat coil\nt1 = not\nt2 = t3\nt3 = pump's\nk0 = feeds\nk1 = is (not) on\n";
+    let names = "t0 = reheat coil\nt1 = not\nt2 = t3\nt3 = pump's\nk0 = feeds\nk1 = is (not) on\n\
+                 k2 = within\n";
     let names = Names::parse(names).expect("names");
     let (mut random, mut seen) = (Random::seeded(230), BTreeSet::new());
     for _ in 0..500 {
@@ -193,6 +200,10 @@ fn parse(text: &str, names: &Names) -> Tree {
             Tree::Axiom(left.into(), parser.or().into())
         }
         false => parser.or(),
+    };
+    let tree = match parser.takes("within") {
+        true => Tree::Inclusion(tree.into(), parser.operand().into()),
+        false => tree,
     };
     assert!(parser.tokens.is_empty(), "{text}: {:?} left", parser.tokens);
     tree

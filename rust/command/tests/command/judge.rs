@@ -6,7 +6,7 @@ use crate::run::{run, run_on};
 use comparison::worked::{JUDGED, S1, TWELVE};
 
 /// What is printed of each of [`JUDGED`].
-const OF_JUDGED: [&str; 8] = [
+const OF_JUDGED: [&str; 13] = [
     "can be met\n\
      traits 0, links 0, marks 0; opening 1, survivors 1\n\
      Some finite plant of at least one item keeps all rules of this sheet: \
@@ -39,12 +39,32 @@ const OF_JUDGED: [&str; 8] = [
      traits 1, links 0, marks 1; opening 4, survivors 4\n\
      Some finite plant of at least one item keeps all rules of this sheet: \
      of the 4 pairings that break no rule by themselves 4 can stand together.\n",
+    "can be met\n\
+     traits 0, links 2, marks 2; opening 32, survivors 4\n\
+     Some finite plant of at least one item keeps all rules of this sheet: \
+     of the 32 pairings that break no rule by themselves 4 can stand together.\n",
+    "cannot be met\n\
+     traits 0, links 2, marks 2; opening 16, survivors 0\n\
+     No finite plant of at least one item keeps all rules of this sheet: \
+     of the 16 pairings that break no rule by themselves none can stand together.\n",
+    "can be met\n\
+     traits 0, links 2, marks 0; opening 12, survivors 9\n\
+     Some finite plant of at least one item keeps all rules of this sheet: \
+     of the 12 pairings that break no rule by themselves 9 can stand together.\n",
+    "can be met\n\
+     traits 1, links 1, marks 2; opening 24, survivors 8\n\
+     Some finite plant of at least one item keeps all rules of this sheet: \
+     of the 24 pairings that break no rule by themselves 8 can stand together.\n",
+    "can be met\n\
+     traits 1, links 2, marks 2; opening 112, survivors 48\n\
+     Some finite plant of at least one item keeps all rules of this sheet: \
+     of the 112 pairings that break no rule by themselves 48 can stand together.\n",
 ];
 
 /// A sheet that no pairing keeps by itself: everything is nothing.
 const NO_OPENING: &str = "01 02 20 00 01";
 
-/// A folder with S0 to S6 and the sheet of one name.
+/// A folder with each of [`JUDGED`].
 fn worked() -> Folder {
     let folder = Folder::new();
     for (number, (hex, ..)) in JUDGED.into_iter().enumerate() {

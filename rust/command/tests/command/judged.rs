@@ -153,5 +153,5 @@ fn the_worked_sheets() {
     let sheets: Vec<_> = worked::all().collect();
     let (lines, totals) = compare(&sheets, &[], &mut random);
     assert_eq!(lines, sheets.len() as u64 + 1);
-    assert_eq!((totals.met, totals.unmet, totals.refused), (6, 3, 10));
+    assert_eq!((totals.met, totals.unmet, totals.refused), (10, 4, 12));
 }

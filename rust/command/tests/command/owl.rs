@@ -5,10 +5,10 @@ use crate::folder::Folder;
 use crate::json::{objects, Json};
 use crate::run::{run, run_on};
 use comparison::owl::worked::{BOTH_WAYS, EXPORTED, IMPORTED};
-use comparison::owl::{damaged, text, without_boolean_roles};
+use comparison::owl::{damaged, text, with_text};
 use comparison::random::Random;
 use comparison::suites::{report, times};
-use comparison::worked::{from_hex, JUDGED, S1};
+use comparison::worked::{from_hex, JUDGED, N8, S1};
 use std::fs;
 use std::path::Path;
 
@@ -174,7 +174,7 @@ fn made_up_texts_and_sheets() {
             "{}",
             text.escape_ascii()
         );
-        let sheet = without_boolean_roles(&mut random);
+        let sheet = with_text(&mut random);
         let length = reference::owl::export(&sheet, &mut out).expect("a text");
         let text = std::str::from_utf8(&out[..length]).expect("a text");
         folder.write("sheet.hex", hex(&sheet));
@@ -196,7 +196,7 @@ fn texts_are_judged_as_sheets() {
     let (mut of_sheets, mut of_texts) = (vec!["judge".to_string()], vec!["judge".to_string()]);
     let mut texts = 0;
     for number in 0..times(300) {
-        let sheet = without_boolean_roles(&mut random);
+        let sheet = with_text(&mut random);
         let counts = reference::read(&sheet).expect("a sheet without faults");
         let text = lodhrussi::exported(&sheet).expect("a text");
         let Ok(again) = lodhrussi::imported(text.as_bytes()) else {
@@ -370,7 +370,8 @@ fn rules_that_have_no_text() {
     let hex = "01 10 00 11 01 12 02 13 01 03 07 04 00 04 05 20 00 00 20 06 00";
     let folder = Folder::with(&[("bad.hex", hex), ("bad.names", "k0 = feeds")]);
     let expected = "bad.hex: refused 20 at byte 18\n\
-        The rule at byte 18 has a link with not, and, or; OWL 2 has no such links. \
+        The rule at byte 18 is a link rule or has a link with not, and, or; the text of a sheet \
+        has neither. \
         Byte 18 is 20 (rule) and begins record 8: it reaches the link named at byte 11, \
         which is record 4 (13, and of links, at byte 7).
   record 8 at byte 18:  20 06 00  rule
@@ -385,6 +386,30 @@ fn rules_that_have_no_text() {
     assert_eq!(object.of("number"), &Json::from(20));
     assert_eq!(object.of("place"), &Json::from(18));
     ran.is(2, &ran.out, "");
+}
+
+/// A link rule has no text; a rule with such a link that comes first is told.
+#[test]
+fn link_rules_that_have_no_text() {
+    let boolean = "01 10 00 13 01 01 07 02 00 20 00 03 21 01 01";
+    let folder = Folder::with(&[("n8.hex", N8), ("boolean.hex", boolean)]);
+    let expected = "n8.hex: refused 20 at byte 18\n\
+        The rule at byte 18 is a link rule or has a link with not, and, or; the text of a sheet \
+        has neither. Byte 18 is 21 (link rule) and begins record 8.
+  record 8 at byte 18:  21 01 02  link rule
+                        ^^^^^^^^  found a link rule; wanted a rule about classes
+";
+    run(&folder, &["export", "n8.hex"]).is(2, expected, "");
+    run(&folder, &["export", "n8.hex", "--ontology=a:b"]).is(2, expected, "");
+    let of_boolean = run(&folder, &["export", "boolean.hex"]);
+    assert!(
+        of_boolean
+            .out
+            .contains("record 4 at byte 9:  20 00 03  rule\n"),
+        "{}",
+        of_boolean.out
+    );
+    of_boolean.is(2, &of_boolean.out, "");
 }
 
 /// The first word decides, after however many blanks; a file of blanks alone is

@@ -28,10 +28,10 @@ const REFUSED: &[Refused] = &[
         place: 3,
         sentence:
             "The record at byte 3 is of no known kind. Byte 3 is 09 and begins record 2; the \
-            kinds are 01 to 08, 10 to 14 and 20.",
+            kinds are 01 to 08, 10 to 14, 20 and 21.",
         drawn: &[
             "  record 2 at byte 3:  09  no known kind",
-            "                       ^^  kind: found 09; wanted 01 to 08, 10 to 14 and 20",
+            "                       ^^  kind: found 09; wanted 01 to 08, 10 to 14, 20 and 21",
         ],
     },
     Refused {
@@ -158,13 +158,38 @@ const REFUSED: &[Refused] = &[
         hex: "10 00 12 00 01 07 01 02",
         number: 8,
         place: 5,
-        sentence: "The record at byte 5 is a some or only whose link holds on the empty set of \
-            links; it must fail there. Byte 5 is 07 (some) and begins record 3: its link, \
+        sentence: "The record at byte 5 is a some, only or link rule whose first link holds on \
+            the empty set of links. Byte 5 is 07 (some) and begins record 3: its link, \
             named at byte 6, is record 1 (12, not of a link, at byte 2).",
         drawn: &[
             "  record 3 at byte 5:  07 01 02  some",
             "                       ^^^^^^^^  found the link not k0, which holds on the \
              empty set of links; wanted a link that fails there",
+        ],
+    },
+    Refused {
+        hex: "10 00 12 00 21 01 00",
+        number: 8,
+        place: 4,
+        sentence: "The record at byte 4 is a some, only or link rule whose first link holds on \
+            the empty set of links. Byte 4 is 21 (link rule) and begins record 2: its first \
+            link, named at byte 5, is record 1 (12, not of a link, at byte 2).",
+        drawn: &[
+            "  record 2 at byte 4:  21 01 00  link rule",
+            "                       ^^^^^^^^  found the first link not k0, which holds on \
+             the empty set of links; wanted a link that fails there",
+        ],
+    },
+    Refused {
+        hex: "10 00 21 00 00 12 01",
+        number: 17,
+        place: 6,
+        sentence: "The reference at byte 6 names a rule; rules are never named. Byte 6 is 01, the \
+            only reference of record 2 (12, not of a link, at byte 5): it names record 1 \
+            (21, link rule, at byte 2), and a link is wanted.",
+        drawn: &[
+            "  record 2 at byte 5:  12 01  not of a link",
+            "                          ^^  only reference: found record 1, a rule; wanted a link",
         ],
     },
     Refused {

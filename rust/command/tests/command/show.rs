@@ -3,7 +3,7 @@
 use crate::folder::Folder;
 use crate::json::{objects, Json};
 use crate::run::{run, run_on};
-use comparison::worked::{from_hex, S6};
+use comparison::worked::{from_hex, N8, S6};
 
 const OF_S6: &str = "\
 s6.hex: 12 bytes, 5 records
@@ -33,7 +33,7 @@ fn a_worked_sheet() {
 }
 
 const OF_EVERY_KIND: &str = "\
-s.hex: 40 bytes, 17 records
+s.hex: 46 bytes, 19 records
 record  byte  bytes     kind            stands for
      0     0  01        everything      everything
      1     1  02        nothing         nothing
@@ -53,10 +53,13 @@ record  byte  bytes     kind            stands for
 is only (k0 or k0 reversed) . nothing
     15    35  20 02 0B  rule            every t0 is everything or t1
     16    38  12 04     not of a link   not k0 (unused)
+    17    40  14 05 04  or of links     k0 reversed or k0
+    18    43  21 04 11  link rule       k0 within (k0 reversed or k0)
 
 rules
   every some (k0 reversed and not k0) . (t0 and not t1) is only (k0 or k0 reversed) . nothing
   every t0 is everything or t1
+  k0 within (k0 reversed or k0)
 
 traits 2, links 1, marks 5
 mark  kind   record  nots  stands for
@@ -71,9 +74,54 @@ mark  kind   record  nots  stands for
 #[test]
 fn a_sheet_of_every_kind() {
     let hex = "01 02 03 00 03 01 10 00 11 00 12 04 13 05 06 14 04 05 \
-               04 03 05 02 09 06 00 03 07 07 0A 08 08 01 20 0C 0D 20 02 0B 12 04";
+               04 03 05 02 09 06 00 03 07 07 0A 08 08 01 20 0C 0D 20 02 0B 12 04 \
+               14 05 04 21 04 11";
     let folder = Folder::with(&[("s.hex", hex)]);
     run(&folder, &["show", "s.hex"]).is(0, OF_EVERY_KIND, "");
+}
+
+const OF_N8: &str = "\
+n8.hex: 21 bytes, 9 records
+record  byte  bytes     kind            stands for
+     0     0  01        everything      everything
+     1     1  10 00     link as named   feeds
+     2     3  10 01     link as named   'within'
+     3     5  02        nothing         nothing
+     4     6  07 01 00  some            some feeds . everything
+     5     9  20 00 04  rule            every everything is some feeds . everything
+     6    12  08 02 03  only            only 'within' . nothing
+     7    15  20 00 06  rule            every everything is only 'within' . nothing
+     8    18  21 01 02  link rule       feeds within 'within'
+
+rules
+  every everything is some feeds . everything
+  every everything is only 'within' . nothing
+  feeds within 'within'
+
+traits 0, links 2, marks 2
+mark  kind   record  nots  stands for
+   0  some        4  even  some feeds . everything
+   1  only        6  even  only 'within' . nothing
+";
+
+/// Document 02's sheet (N8); a name that is a word of the rules stands in quotes.
+#[test]
+fn a_sheet_with_a_link_rule() {
+    let names = "k0 = feeds\nk1 = within\n";
+    let folder = Folder::with(&[("n8.hex", N8), ("n8.names", names)]);
+    run(&folder, &["show", "n8.hex"]).is(0, OF_N8, "");
+    let ran = run(&folder, &["show", "--json", "n8.hex"]);
+    let [object] = &objects(&ran.out)[..] else {
+        panic!("one object, and not {}", ran.out);
+    };
+    let rules = [
+        "every everything is some feeds . everything",
+        "every everything is only 'within' . nothing",
+        "feeds within 'within'",
+    ];
+    let rules = rules.map(Json::from).to_vec();
+    assert_eq!(object.of("rules"), &Json::List(rules));
+    ran.is(0, &ran.out, "");
 }
 
 #[test]
@@ -152,9 +200,9 @@ record  byte  bytes     kind            stands for
 
 bad.hex: refused 1 at byte 0
 The record at byte 0 is of no known kind. \
-Byte 0 is 09 and begins record 0; the kinds are 01 to 08, 10 to 14 and 20.
+Byte 0 is 09 and begins record 0; the kinds are 01 to 08, 10 to 14, 20 and 21.
   record 0 at byte 0:  09  no known kind
-                       ^^  kind: found 09; wanted 01 to 08, 10 to 14 and 20
+                       ^^  kind: found 09; wanted 01 to 08, 10 to 14, 20 and 21
 ";
     run(&folder, &["show", "bad.hex"]).is(2, unknown, "");
     let cut = "\

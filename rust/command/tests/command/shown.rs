@@ -29,7 +29,8 @@ fn kind_words(kind: u8) -> &'static str {
         0x12 => "not of a link",
         0x13 => "and of links",
         0x14 => "or of links",
-        _ => "rule",
+        0x20 => "rule",
+        _ => "link rule",
     }
 }
 
@@ -52,6 +53,17 @@ fn reach(records: &[&[u8]], number: usize, reached: &mut [bool]) {
     }
 }
 
+/// The axioms and role inclusions, in the sheet's order.
+fn rules(written: &Written) -> Vec<String> {
+    let axioms = written.axioms.iter().map(words::axiom);
+    let inclusions = written.inclusions.iter().map(words::inclusion);
+    let axioms = written.starts.iter().zip(axioms);
+    let inclusions = written.inclusion_starts.iter().zip(inclusions);
+    let mut rules: Vec<_> = axioms.chain(inclusions).collect();
+    rules.sort();
+    rules.into_iter().map(|(_, rule)| rule).collect()
+}
+
 /// The rows of the records of a sheet without faults.
 fn rows(sheet: &[u8], written: &Written) -> String {
     let bounds = bounds(sheet);
@@ -61,18 +73,18 @@ fn rows(sheet: &[u8], written: &Written) -> String {
         .collect();
     let mut reached = vec![false; records.len()];
     for (number, record) in records.iter().enumerate() {
-        if record[0] == 0x20 {
+        if sort(record[0]).is_none() {
             reach(&records, number, &mut reached);
         }
     }
-    let mut axioms = written.axioms.iter();
+    let mut rules = rules(written).into_iter();
     let mut rows = String::new();
     for (number, (record, start)) in records.iter().zip(&bounds).enumerate() {
         let bytes: Vec<_> = record.iter().map(|byte| format!("{byte:02X}")).collect();
         let text = match sort(record[0]) {
             Some(Sort::Concept) => words::concept(&written.concept(number)),
             Some(Sort::Role) => words::role(&written.role(number)),
-            None => words::axiom(axioms.next().expect("an axiom")),
+            None => rules.next().expect("an axiom or a role inclusion"),
         };
         let (bytes, kind) = (bytes.join(" "), kind_words(record[0]));
         let unused = if reached[number] { "" } else { " (unused)" };
@@ -114,13 +126,14 @@ fn shown(name: &str, sheet: &[u8]) -> String {
         text += "record  byte  bytes     kind            stands for\n";
         text += &rows(sheet, &written);
     }
-    text += if written.axioms.is_empty() {
+    let rules = rules(&written);
+    text += if rules.is_empty() {
         "\nno rules\n"
     } else {
         "\nrules\n"
     };
-    for axiom in &written.axioms {
-        text += &format!("  {}\n", words::axiom(axiom));
+    for rule in rules {
+        text += &format!("  {rule}\n");
     }
     let reference::Counts {
         traits,

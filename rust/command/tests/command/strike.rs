@@ -7,7 +7,7 @@ use crate::sheets::file;
 use crate::words;
 use comparison::random::Random;
 use comparison::suites::{report, times};
-use comparison::worked::{from_hex, S1, S4, S5, TWELVE};
+use comparison::worked::{from_hex, N8, N8_MET, S1, S4, S5, TWELVE};
 use comparison::{few_axioms, made_up};
 use reference::domino::{Domino, Shape};
 use reference::flat::flatten;
@@ -86,6 +86,23 @@ would break it is missing.
     run(&folder, &["strike", "s5.hex", "16", "63"]).is(0, of_s5, "");
 }
 
+/// What breaks a link rule is not opened; document 02's sheet (N8) then lacks a
+/// partner.
+#[test]
+fn a_link_rule() {
+    let folder = Folder::with(&[("met.hex", N8_MET), ("n8.hex", N8)]);
+    let sides = "  left marks some k0 . everything, only k1 . nothing\n  links k0\n  \
+                 right marks none\n";
+    let of_met = format!("196: struck by condition 6, sym: Its mirror image is missing.\n{sides}");
+    run(&folder, &["strike", "met.hex", "196"]).is(0, &of_met, "");
+    let missing = "A partner for a 'some' claim is missing.";
+    let of_n8 = format!(
+        "196: absent\n{sides}192: struck by condition 4, delex: {missing}\n{}",
+        sides.replace("links k0", "links none")
+    );
+    run(&folder, &["strike", "n8.hex", "196", "192"]).is(0, &of_n8, "");
+}
+
 #[test]
 fn the_largest_numbers() {
     let folder = Folder::with(&[("twelve.hex", TWELVE)]);
@@ -133,7 +150,7 @@ With 2 marks and 1 link the pairings are numbered 0 to 63.\",\"pairing\":64}
 }
 
 /// Names and sentences of the conditions.
-const CONDITIONS: [(&str, &str); 6] = [
+const CONDITIONS: [(&str, &str); 7] = [
     ("kb", "The left side breaks a rule of the sheet."),
     (
         "ex",
@@ -149,6 +166,10 @@ const CONDITIONS: [(&str, &str); 6] = [
         "The left side lacks an 'only' claim, and a partner that would break it is missing.",
     ),
     ("sym", "Its mirror image is missing."),
+    (
+        "rbox",
+        "The links between the two sides break a link rule of the sheet.",
+    ),
 ];
 
 /// The members of a set of bits, in words.
@@ -167,7 +188,7 @@ fn link(bit: usize) -> String {
 }
 
 /// What is to be said of strikes on a sheet without faults; counts verdicts.
-fn said(sheet: &[u8], numbers: &[u64], verdicts: &mut [u64; 9]) -> String {
+fn said(sheet: &[u8], numbers: &[u64], verdicts: &mut [u64; 10]) -> String {
     let kb = flatten(sheet).expect("a sheet without faults");
     let marks = words::parts(&kb);
     let shape = Shape {
@@ -180,8 +201,8 @@ fn said(sheet: &[u8], numbers: &[u64], verdicts: &mut [u64; 9]) -> String {
     for &number in numbers {
         let strike = reference::strike(sheet, &mut set, number).expect("a pairing");
         let (at, verdict) = match strike.verdict {
-            Verdict::Absent => (7, "absent".into()),
-            Verdict::Kept => (8, "kept".into()),
+            Verdict::Absent => (8, "absent".into()),
+            Verdict::Kept => (9, "kept".into()),
             Verdict::Struck { condition } => {
                 let (name, sentence) = CONDITIONS[usize::from(condition) - 1];
                 let verdict = format!("struck by condition {condition}, {name}: {sentence}");
@@ -204,8 +225,8 @@ fn said(sheet: &[u8], numbers: &[u64], verdicts: &mut [u64; 9]) -> String {
 fn made_up_sheets() {
     let mut random = Random::seeded(83);
     let folder = Folder::new();
-    let (mut compared, mut verdicts) = (0, [0; 9]);
-    for turn in 0..times(200) {
+    let (mut compared, mut verdicts) = (0, [0; 10]);
+    for turn in 0..times(500) {
         let size = 2 + turn as usize % 5;
         let sheet = match turn % 3 {
             0 => made_up::small_sheet(size, &mut random),
@@ -227,8 +248,10 @@ fn made_up_sheets() {
         &verdicts[1..]
     );
     report("strike, made-up sheets", &tally);
-    // What was opened meets the conditions 1 to 3 for good.
-    assert_eq!(verdicts[..4], [0; 4]);
-    assert!(verdicts[4..].iter().all(|&count| count >= 100), "{tally}");
-    assert_eq!(compared, 60 * times(200) as usize);
+    // What was opened meets the conditions 1 to 3 and 7 for good.
+    let [_, kb, ex, uni, after @ .., rbox, absent, kept] = verdicts;
+    assert_eq!([kb, ex, uni, rbox], [0; 4]);
+    let mut seen = after.into_iter().chain([absent, kept]);
+    assert!(seen.all(|count| count >= 100), "{tally}");
+    assert_eq!(compared, 60 * times(500) as usize);
 }

@@ -1,7 +1,7 @@
 //! The words for counts, and for the reference's trees and parts without names.
 
 use reference::flat::{Filler, FlatKb, Normal, Part, Restriction};
-use reference::written::{Axiom, Concept, Role};
+use reference::written::{Axiom, Concept, Inclusion, Role};
 
 /// So many things.
 pub fn count(number: u64, thing: &str) -> String {
@@ -99,6 +99,12 @@ pub fn axiom(axiom: &Axiom) -> String {
         concept(&axiom.left),
         concept(&axiom.right)
     )
+}
+
+/// The words for a role inclusion as written.
+pub fn inclusion(inclusion: &Inclusion) -> String {
+    let [first, second] = [&inclusion.first, &inclusion.second].map(|u| of_role(u).within(2));
+    format!("{first} within {second}")
 }
 
 /// The words for the parts, in normal form.

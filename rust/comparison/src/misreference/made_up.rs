@@ -6,7 +6,7 @@ use crate::random::Random;
 use crate::records::{is_leaf, sort, wants, Sort};
 
 /// The most records that [`add`] adds.
-const MOST: usize = 8;
+const MOST: usize = 9;
 
 /// A made-up sheet whose first fault is that of the case; answers also where it
 /// stands.
@@ -60,7 +60,7 @@ fn body(sheet: &Sheet, case: Case, random: &mut Random) -> Option<[u8; 2]> {
 
 /// A record as a reference finds it.
 struct Record {
-    /// None for an axiom.
+    /// None for an axiom or a role inclusion.
     sort: Option<Sort>,
     is_leaf: bool,
     named: bool,
@@ -104,7 +104,8 @@ fn fault_of(record: Option<&Record>, wanted: Sort) -> Option<Fault> {
     }
 }
 
-/// Adds a leaf of each sort, a record of each sort that is named, and an axiom.
+/// Adds a leaf of each sort, a record of each sort that is named, an axiom and a
+/// role inclusion.
 fn add_some_of_each(sheet: &mut Sheet) {
     let leaf = sheet.push(&[0x01]);
     let named = sheet.push(&[0x04, leaf]);
@@ -113,4 +114,5 @@ fn add_some_of_each(sheet: &mut Sheet) {
     let leaf = sheet.push(&[0x10, 0]);
     let named = sheet.push(&[0x12, leaf]);
     sheet.push(&[0x12, named]);
+    sheet.push(&[0x21, leaf, leaf]);
 }

@@ -32,7 +32,7 @@ pub struct Case {
 }
 
 impl Case {
-    /// Each fault at each reference of each kind: 64.
+    /// Each fault at each reference of each kind: 72.
     #[must_use]
     pub fn all() -> Vec<Self> {
         use Fault::{AxiomNamed, NamedTwice, NotEarlier, WrongSort};

@@ -1,6 +1,6 @@
 //! The comparisons of one engine with the reference, on faulty references.
 
-use super::worked::{BEFORE, FAULTY, TWO_FAULTS};
+use super::worked::{BEFORE, BEFORE_INCLUSION, FAULTY, OF_INCLUSION, TWO_FAULTS};
 use super::{sheet, Case};
 use crate::hex::Hex;
 use crate::random::Random;
@@ -20,6 +20,7 @@ pub fn fixed(engine: &impl Reading) {
     let whole = worked::REFUSED.map(|row| ("", row));
     let after = FAULTY.into_iter().chain(TWO_FAULTS);
     let rows = whole.into_iter().chain(after.map(|row| (BEFORE, row)));
+    let rows = rows.chain(OF_INCLUSION.map(|row| (BEFORE_INCLUSION, row)));
     for (before, (hex, number, place)) in rows {
         let sheet = [worked::from_hex(before), worked::from_hex(hex)].concat();
         let refusal = Refusal { number, place };
@@ -52,6 +53,7 @@ pub fn made_up_reading(engine: &impl Reading) -> reading::Tally {
         }
     }
     assert!(tally.misreferences.rarest() >= OFTEN, "{tally}");
+    assert!(tally.inclusions.named >= OFTEN, "{tally}");
     tally
 }
 

@@ -7,7 +7,7 @@ use crate::worked::Refused;
 pub const BEFORE: &str = "01  10 00  04 00  12 01  04 02  12 03  20 00 00";
 
 /// Each fault of each reference of each kind.
-pub const FAULTY: [Refused; 64] = [
+pub const FAULTY: [Refused; 72] = [
     ("04 07", 5, 15),
     ("04 01", 6, 15),
     ("04 06", 17, 15),
@@ -72,11 +72,19 @@ pub const FAULTY: [Refused; 64] = [
     ("20 00 01", 6, 16),
     ("20 00 06", 17, 16),
     ("20 00 02", 7, 16),
+    ("21 07 01", 5, 15),
+    ("21 00 01", 16, 15),
+    ("21 06 01", 17, 15),
+    ("21 03 01", 7, 15),
+    ("21 01 07", 5, 16),
+    ("21 01 00", 16, 16),
+    ("21 01 06", 17, 16),
+    ("21 01 03", 7, 16),
 ];
 
 /// Records with two faults: of one reference, of both, or that the first
 /// reference makes of the second.
-pub const TWO_FAULTS: [Refused; 12] = [
+pub const TWO_FAULTS: [Refused; 15] = [
     ("04 03", 6, 15),
     ("12 02", 16, 15),
     ("07 02 00", 16, 15),
@@ -89,4 +97,42 @@ pub const TWO_FAULTS: [Refused; 12] = [
     ("05 04 04", 7, 16),
     ("14 05 05", 7, 16),
     ("20 04 04", 7, 16),
+    ("21 02 07", 16, 15),
+    ("21 03 06", 7, 15),
+    ("21 05 05", 7, 16),
+];
+
+/// What stands before the record of a row, 8 bytes: everything (record 0), a role
+/// (1), an inclusion (2), a role that holds on the empty role set (3).
+pub const BEFORE_INCLUSION: &str = "01  10 00  21 01 01  12 01";
+
+/// Records that name an inclusion, by each reference of each kind; then
+/// inclusions of the role that holds on the empty role set, without a fault of a
+/// reference and with one.
+pub const OF_INCLUSION: [Refused; 25] = [
+    ("04 02", 17, 9),
+    ("05 02 00", 17, 9),
+    ("05 00 02", 17, 10),
+    ("06 02 00", 17, 9),
+    ("06 00 02", 17, 10),
+    ("07 02 00", 17, 9),
+    ("07 01 02", 17, 10),
+    ("08 02 00", 17, 9),
+    ("08 01 02", 17, 10),
+    ("12 02", 17, 9),
+    ("13 02 01", 17, 9),
+    ("13 01 02", 17, 10),
+    ("14 02 01", 17, 9),
+    ("14 01 02", 17, 10),
+    ("20 02 00", 17, 9),
+    ("20 00 02", 17, 10),
+    ("21 02 01", 17, 9),
+    ("21 01 02", 17, 10),
+    ("21 03 01", 8, 8),
+    ("21 03 04", 5, 10),
+    ("21 03 00", 16, 10),
+    ("21 03 02", 17, 10),
+    ("21 03 03", 7, 10),
+    ("21 03", 2, 8),
+    ("14 01 03 21 04 01", 8, 11),
 ];

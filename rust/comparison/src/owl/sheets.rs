@@ -1,5 +1,5 @@
-//! Sheets to export: without Boolean roles, with such that no axiom reaches, and
-//! with one that an axiom reaches.
+//! Sheets to export: with a text; with Boolean roles that no axiom reaches; with
+//! one that an axiom reaches, or a role inclusion, which have none.
 
 use crate::few_axioms;
 use crate::made_up::{self, MAX_RECORDS};
@@ -14,9 +14,10 @@ fn has_text(sheet: &[u8]) -> bool {
     owl::export(sheet, &mut [0; LONGEST]).is_ok()
 }
 
-/// A made-up sheet whose axioms reach no Boolean role; others may be in it.
+/// A made-up sheet without role inclusions whose axioms reach no Boolean role;
+/// others may be in it.
 #[must_use]
-pub fn without_boolean_roles(random: &mut Random) -> Vec<u8> {
+pub fn with_text(random: &mut Random) -> Vec<u8> {
     loop {
         let sheet = match random.below(4) {
             0 => made_up::sheet(random).bytes,
@@ -83,7 +84,7 @@ fn add_restriction(sheet: &mut Vec<u8>, random: &mut Random) -> Option<u8> {
 #[must_use]
 pub fn with_unused_roles(random: &mut Random) -> Vec<u8> {
     loop {
-        let mut sheet = without_boolean_roles(random);
+        let mut sheet = with_text(random);
         let added = add_restriction(&mut sheet, random).is_some();
         if added && has_text(&sheet) {
             return sheet;
@@ -91,22 +92,84 @@ pub fn with_unused_roles(random: &mut Random) -> Vec<u8> {
     }
 }
 
+/// A sheet that has no text, and where what first calls for that starts.
+pub type WithoutText = (Vec<u8>, usize);
+
 /// Such a sheet with an axiom more, which reaches a Boolean role, and another
-/// after it; answers also where that axiom starts. None where the parts are too
-/// many.
+/// after it.
 #[must_use]
-pub fn with_used_role(random: &mut Random) -> (Vec<u8>, usize) {
+pub fn with_used_role(random: &mut Random) -> WithoutText {
+    with_more(random, |sheet, random| {
+        let top = count(sheet) as u8;
+        let starts = [add_axiom(sheet, random)?];
+        sheet.extend([0x20, top, top]);
+        Some(starts)
+    })
+}
+
+/// Such a sheet with a role inclusion more, and another after it.
+#[must_use]
+pub fn with_inclusion(random: &mut Random) -> WithoutText {
+    with_more(random, |sheet, random| {
+        Some([add_inclusion(sheet, random)?, add_inclusion(sheet, random)?])
+    })
+}
+
+/// Such a sheet with an axiom that reaches a Boolean role and with a role
+/// inclusion, in either order.
+#[must_use]
+pub fn with_used_role_and_inclusion(random: &mut Random) -> WithoutText {
+    with_more(random, |sheet, random| {
+        Some(if random.one_in(2) {
+            [add_axiom(sheet, random)?, add_inclusion(sheet, random)?]
+        } else {
+            [add_inclusion(sheet, random)?, add_axiom(sheet, random)?]
+        })
+    })
+}
+
+/// A sheet that has a text, with what is added, and the first of the places that
+/// this answers; of those whose parts are not too many.
+fn with_more<const N: usize>(
+    random: &mut Random,
+    add: impl Fn(&mut Vec<u8>, &mut Random) -> Option<[usize; N]>,
+) -> WithoutText {
     loop {
-        let mut sheet = without_boolean_roles(random);
-        let Some(restriction) = add_restriction(&mut sheet, random) else {
+        let mut sheet = with_text(random);
+        let Some(starts) = add(&mut sheet, random) else {
             continue;
         };
-        let place = sheet.len();
-        let top = restriction - 4;
-        let sides = random.pick(&[[top, restriction], [restriction, top]]);
-        sheet.extend([0x20, sides[0], sides[1], 0x20, top, top]);
         if reference::read(&sheet).is_ok() {
-            return (sheet, place);
+            return (sheet, starts[0]);
         }
     }
+}
+
+/// Adds an axiom that reaches a Boolean role, if there is room: six records;
+/// answers where it starts.
+fn add_axiom(sheet: &mut Vec<u8>, random: &mut Random) -> Option<usize> {
+    let restriction = add_restriction(sheet, random)?;
+    let (start, top) = (sheet.len(), restriction - 4);
+    let sides = random.pick(&[[top, restriction], [restriction, top]]);
+    sheet.extend([0x20, sides[0], sides[1]]);
+    Some(start)
+}
+
+/// Adds an inclusion of a leaf in a leaf or in a not of one, if there is room;
+/// answers where it starts.
+fn add_inclusion(sheet: &mut Vec<u8>, random: &mut Random) -> Option<usize> {
+    let number = count(sheet);
+    if number + 5 > MAX_RECORDS {
+        return None;
+    }
+    let first = number as u8;
+    sheet.extend([0x10, 0x00, random.pick(&[0x10, 0x11]), 0x00]);
+    let mut second = first + 1;
+    if random.one_in(2) {
+        sheet.extend([0x12, second]);
+        second += 1;
+    }
+    let start = sheet.len();
+    sheet.extend([0x21, first, second]);
+    Some(start)
 }

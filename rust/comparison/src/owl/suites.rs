@@ -3,8 +3,8 @@
 
 use super::worked::{Outcome, BOTH_WAYS, EXPORTED, IMPORTED};
 use super::{
-    damaged, laid_out, nested, soup, text, tokens, with_shared_leaves, with_unused_roles,
-    with_used_role, without_boolean_roles, Call, Tally, MAX_RECORDS,
+    damaged, laid_out, nested, soup, text, tokens, with_inclusion, with_shared_leaves, with_text,
+    with_unused_roles, with_used_role, with_used_role_and_inclusion, Call, Tally, MAX_RECORDS,
 };
 use crate::hex::{from_hex, Hex};
 use crate::random::Random;
@@ -171,7 +171,7 @@ pub fn beginnings_and_lengths(engine: &impl Translating) -> Tally {
         let beginnings = (0..=text.len()).map(|end| Call::Import(&text[..end]));
         tally.compare_all(engine, beginnings, &mut random);
         tally.compare_lengths(engine, Call::Import(&text), &mut random);
-        let sheet = without_boolean_roles(&mut random);
+        let sheet = with_text(&mut random);
         tally.compare_lengths(engine, Call::Export(&sheet), &mut random);
     }
     tally
@@ -209,7 +209,7 @@ pub fn long_texts(engine: &impl Translating) -> Tally {
 }
 
 /// Worked sheets and every beginning of them, made-up and damaged ones, with and
-/// without Boolean roles in their axioms.
+/// without Boolean roles in their axioms and role inclusions.
 ///
 /// # Panics
 ///
@@ -224,26 +224,35 @@ pub fn made_up_sheets(engine: &impl Translating) -> Tally {
     }
     (0..times(4_000)).for_each(|_| any_sheets(engine, &mut tally, &mut random));
     tally.assert_refused((1..=9).chain([16, 17, 20, 21]), 100);
-    assert!(4 * tally.exported >= tally.sheets, "{tally}");
+    assert!(5 * tally.exported >= tally.sheets, "{tally}");
     tally
 }
 
 /// A sheet of each sort.
 fn any_sheets(engine: &impl Translating, tally: &mut Tally, random: &mut Random) {
-    let (with_role, place) = with_used_role(random);
-    let refusal = Refusal {
-        number: 20,
-        place: place as u64,
-    };
-    let answer = engine.export(&with_role, &mut []);
-    assert_eq!(answer, Err(refusal), "{}", Hex(&with_role));
+    let without_text = [
+        with_used_role(random),
+        with_inclusion(random),
+        with_used_role_and_inclusion(random),
+    ];
+    for (sheet, place) in &without_text {
+        let refusal = Refusal {
+            number: 20,
+            place: *place as u64,
+        };
+        let answer = engine.export(sheet, &mut []);
+        assert_eq!(answer, Err(refusal), "{}", Hex(sheet));
+    }
+    let [with_role, with_inclusion, with_both] = without_text.map(|(sheet, _)| sheet);
     let sheets = [
         with_role,
+        with_inclusion,
+        with_both,
         made_up::sheet(random).bytes,
         few_axioms::sheet(1 + random.below(8), random),
         damage::damaged(random),
         damage::noise(random),
-        without_boolean_roles(random),
+        with_text(random),
         with_unused_roles(random),
         of_text(random),
     ];
@@ -301,7 +310,7 @@ pub fn round_trips(engine: &impl Translating, judge: Judge) -> RoundTrips {
     for turn in 0..times(4_000) {
         let sheet = match turn % 16 {
             0 => with_shared_leaves(&mut random),
-            _ => without_boolean_roles(&mut random),
+            _ => with_text(&mut random),
         };
         trips.sheet(engine, judge, &sheet);
         let text = text(&mut random);
@@ -325,7 +334,7 @@ impl RoundTrips {
     /// A sheet that has a text.
     fn sheet(&mut self, engine: &impl Translating, judge: Judge, sheet: &[u8]) {
         self.sheets += 1;
-        let text = written(engine, Call::Export(sheet)).expect("no Boolean role in an axiom");
+        let text = written(engine, Call::Export(sheet)).expect("a sheet with a text");
         let again = match written(engine, Call::Import(&text)) {
             Ok(again) => again,
             Err(refusal) => {

@@ -107,7 +107,7 @@ pub const IMPORTED: [(&str, Outcome); 36] = [
 ];
 
 /// A sheet in hex, and what export writes of it.
-pub const EXPORTED: [(&str, Outcome); 11] = [
+pub const EXPORTED: [(&str, Outcome); 17] = [
     ("03 00 04 00 05 01 01", Err((7, 6))),
     ("04 00", Err((5, 1))),
     ("03 0B 10 00", Err((9, 0))),
@@ -135,4 +135,16 @@ pub const EXPORTED: [(&str, Outcome); 11] = [
         "03 02 10 01 03 00 04 02 20 02 02",
         Ok("SubClassOf(:t0 :t0)\n"),
     ),
+    // document 02's sheet with a role inclusion (N8), and an inclusion alone
+    (
+        "01 10 00 10 01 02 07 01 00 20 00 04 08 02 03 20 00 06 21 01 02",
+        Err((20, 18)),
+    ),
+    ("10 00 21 00 00", Err((20, 2))),
+    // after an axiom with a Boolean role, and before one
+    ("01 10 00 13 01 01 07 02 00 20 00 03 21 01 01", Err((20, 9))),
+    ("01 10 00 21 01 01 13 01 01 07 03 00 20 00 04", Err((20, 3))),
+    // faults of the sheet come first
+    ("10 00 21 00 00 03 0C", Err((4, 5))),
+    ("10 00 21 00 00 03 0B", Err((9, 0))),
 ];

@@ -28,9 +28,9 @@ pub struct Refusal {
     /// 1 to 8, 16 and 17 for a fault of one record, 9 for too many parts, 10
     /// for a set that is too short, 11 for a domino number that is too large,
     /// 12 for a list that is too short, 18 and 19 for a fault of a text, 3 also
-    /// for its 256th record, 20 for an axiom that has no text, 21 for an output
-    /// that is too short. No call answers 13, which is withdrawn, nor 14 and 15,
-    /// which are the queue program's.
+    /// for its 256th record, 20 for an axiom or a role inclusion that has no
+    /// text, 21 for an output that is too short. No call answers 13, which is
+    /// withdrawn, nor 14 and 15, which are the queue program's.
     pub number: u64,
     /// For 5, 6, 7, 16 and 17 the byte of the faulty reference, for 1 to 4, 8
     /// and 20 the byte where the faulty record starts, for 18 and 19 the byte of

@@ -2,7 +2,7 @@
 
 use super::sentence::{said, Subject};
 use super::Refusal;
-use crate::records::{records, Field, Record, Reference, KIND_BYTES};
+use crate::records::{records, Field, Record, Reference, Sort, KIND_BYTES};
 use crate::{words_needed, Counts};
 use std::collections::BTreeSet;
 
@@ -79,7 +79,7 @@ fn of_record(number: u64, sheet: &[u8], place: usize) -> Option<String> {
         2 => cut_off(record),
         3 => ": records are numbered 0 to 254".into(),
         4 => number_too_large(record)?,
-        8 => role_of_restriction(record, sheet)?,
+        8 => first_role(record, sheet)?,
         _ => return None,
     };
     let kind = record.kind.map(|kind| format!(" ({})", kind.words));
@@ -110,14 +110,20 @@ fn number_too_large(record: Record<'_>) -> Option<String> {
     ))
 }
 
-/// The role of a restriction, which holds on the empty role set.
-fn role_of_restriction(record: Record<'_>, sheet: &[u8]) -> Option<String> {
+/// The role of a restriction, or the first of an inclusion, which holds on the
+/// empty role set.
+fn first_role(record: Record<'_>, sheet: &[u8]) -> Option<String> {
     let role = record.references().next()?;
     let (place, named) = (role.place, named(sheet, role)?);
-    Some(format!(": its link, named at byte {place}, is {named}"))
+    let its = match record.sort()? {
+        Sort::Axiom => "first link",
+        _ => "link",
+    };
+    Some(format!(": its {its}, named at byte {place}, is {named}"))
 }
 
-/// The first axiom with a Boolean role, at the place, and where that is named.
+/// The first axiom with a Boolean role, at the place, and where that is named; or
+/// a role inclusion.
 fn of_axiom(sheet: &[u8], place: u64) -> Option<String> {
     let refusal = crate::export(sheet, &mut []).err()?;
     if (refusal.number, refusal.place) != (20, place) {
@@ -125,18 +131,22 @@ fn of_axiom(sheet: &[u8], place: u64) -> Option<String> {
     }
     let all: Vec<_> = records(sheet).collect();
     let axiom = all.iter().find(|record| record.start as u64 == place)?;
+    let (byte, words, number) = (axiom.byte, axiom.words(), axiom.number);
+    let begins = format!("Byte {place} is {byte:02X} ({words}) and begins record {number}");
+    if byte == 0x21 {
+        return Some(format!("{begins}."));
+    }
     let is_boolean = |record: &Record<'_>| matches!(record.byte, 0x12..=0x14);
     let naming = |record: &Record<'_>| {
         let role = record.references().next()?;
         let restricts = matches!(record.byte, 0x07 | 0x08);
         (restricts && is_boolean(&all[usize::from(role.names)])).then_some(role)
     };
-    let mut reached = reached(&all[..=axiom.number]);
+    let mut reached = reached(&all[..=number]);
     let role = reached.find_map(naming)?;
-    let (at, named, number) = (role.place, named(sheet, role)?, axiom.number);
+    let (at, named) = (role.place, named(sheet, role)?);
     Some(format!(
-        "Byte {place} is 20 (rule) and begins record {number}: \
-         it reaches the link named at byte {at}, which is {named}."
+        "{begins}: it reaches the link named at byte {at}, which is {named}."
     ))
 }
 

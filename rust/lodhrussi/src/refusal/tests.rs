@@ -34,8 +34,8 @@ const OF_SHEET: [(u64, &str); 11] = [
     ),
     (
         8,
-        "The record at byte 5 is a some or only whose link holds on the empty set of links; \
-         it must fail there.",
+        "The record at byte 5 is a some, only or link rule whose first link holds on the empty \
+         set of links.",
     ),
     (9, "The sheet has more than 12 marks and links together."),
     (
@@ -69,8 +69,9 @@ const OF_TEXT: [(u64, &str); 4] = [
     (21, OUTPUT_TOO_SHORT),
 ];
 
-const BOOLEAN_ROLE: &str =
-    "The rule at byte 5 has a link with not, and, or; OWL 2 has no such links.";
+const NO_TEXT: &str =
+    "The rule at byte 5 is a link rule or has a link with not, and, or; the text of a sheet has \
+     neither.";
 
 /// What a call of a sheet has beyond those.
 const OWN: [(Call, &[(u64, &str)]); 7] = [
@@ -80,7 +81,7 @@ const OWN: [(Call, &[(u64, &str)]); 7] = [
     (Call::Strike, &[(10, SET_TOO_SHORT), (11, NUMBER_TOO_LARGE)]),
     (Call::Settle, &[(10, SET_TOO_SHORT)]),
     (Call::Judge, &[(10, SET_TOO_SHORT)]),
-    (Call::Export, &[(20, BOOLEAN_ROLE), (21, OUTPUT_TOO_SHORT)]),
+    (Call::Export, &[(20, NO_TEXT), (21, OUTPUT_TOO_SHORT)]),
 ];
 
 /// Asserts the sentence of each number of a call.
@@ -132,7 +133,7 @@ const SHOWN: &[(&str, u64, u64, &str)] = &[
         "01 10 00 09 01",
         1,
         3,
-        "Byte 3 is 09 and begins record 2; the kinds are 01 to 08, 10 to 14 and 20.",
+        "Byte 3 is 09 and begins record 2; the kinds are 01 to 08, 10 to 14, 20 and 21.",
     ),
     (
         "01 10 00 03 00 07 01",
@@ -240,6 +241,49 @@ const SHOWN: &[(&str, u64, u64, &str)] = &[
         5,
         "Byte 5 is 07 (some) and begins record 3: \
          its link, named at byte 6, is record 1 (12, not of a link, at byte 2).",
+    ),
+    (
+        "10 00 12 00 21 01 00",
+        8,
+        4,
+        "Byte 4 is 21 (link rule) and begins record 2: \
+         its first link, named at byte 5, is record 1 (12, not of a link, at byte 2).",
+    ),
+    (
+        "10 00 21 00",
+        2,
+        2,
+        "Byte 2 is 21 (link rule) and begins record 1: \
+         its body takes 2 bytes, and the sheet ends 1 byte too soon.",
+    ),
+    (
+        "10 00 21 00 01",
+        5,
+        4,
+        "Byte 4 is 01, the second reference of record 1 (21, link rule, at byte 2): \
+         it names record 1, and only record 0 comes before.",
+    ),
+    (
+        "10 00 01 21 01 00",
+        16,
+        4,
+        "Byte 4 is 01, the first reference of record 2 (21, link rule, at byte 3): \
+         it names record 1 (01, everything, at byte 2), and a link is wanted.",
+    ),
+    (
+        "10 00 21 00 00 12 01",
+        17,
+        6,
+        "Byte 6 is 01, the only reference of record 2 (12, not of a link, at byte 5): \
+         it names record 1 (21, link rule, at byte 2), and a link is wanted.",
+    ),
+    (
+        "10 00 13 00 00 21 01 01",
+        7,
+        7,
+        "Byte 7 is 01, the second reference of record 2 (21, link rule, at byte 5): \
+         it names record 1 (13, and of links, at byte 2), \
+         which the reference at byte 6 named before.",
     ),
     (
         "03 0B 10 00",
@@ -353,6 +397,29 @@ fn what_an_axiom_with_a_boolean_role_shows() {
     };
     assert_eq!(other.explain(&sheet), other.to_string());
     assert_eq!(refusal.explain(&hex(S1)), refusal.to_string());
+}
+
+#[test]
+fn what_a_role_inclusion_shows() {
+    for (text, place, record) in [
+        ("10 00 21 00 00", 2, 1),
+        ("01 10 00 21 01 01 20 00 00", 3, 2),
+    ] {
+        let sheet = hex(text);
+        let refusal = crate::export(&sheet, &mut []).unwrap_err();
+        assert_eq!((refusal.number, refusal.place), (20, place));
+        let shown = format!("Byte {place} is 21 (link rule) and begins record {record}.");
+        assert_shown(refusal, &sheet, &shown);
+    }
+    // an axiom with a Boolean role comes first
+    let sheet = hex(&format!("{BOOLEAN} 21 02 02"));
+    let refusal = crate::export(&sheet, &mut []).unwrap_err();
+    assert_eq!((refusal.number, refusal.place), (20, 18));
+    let shown = refusal.explain(&sheet);
+    assert!(
+        shown.contains("Byte 18 is 20 (rule) and begins record 8: "),
+        "{shown}"
+    );
 }
 
 #[test]

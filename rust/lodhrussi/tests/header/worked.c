@@ -16,10 +16,10 @@ static void line(const char *call, const uint64_t *numbers, int count)
 }
 
 /* The refusal, place, verdict and condition of one strike. */
-static void strike(uint64_t *set, uint64_t number)
+static void strike(const uint8_t *sheet, size_t n, uint64_t *set, uint64_t number)
 {
     uint64_t out[4] = {9, 9, 9, 9};
-    out[0] = lodhrussi_strike(s1, sizeof s1, set, 1, number, &out[1], &out[2], &out[3]);
+    out[0] = lodhrussi_strike(sheet, n, set, 1, number, &out[1], &out[2], &out[3]);
     line("strike", out, 4);
 }
 
@@ -74,6 +74,31 @@ static void texts(void)
     export_sheet(composed, 11, 22);
 }
 
+/* k0 within k1: opened, struck where only k0 joins, then its mirror image, kept where both join, judged; and refusals. */
+static void link_rules(void)
+{
+    static const uint8_t sheet[] = {0x10, 0x00, 0x10, 0x01, 0x21, 0x00, 0x01};
+    static const uint8_t on_empty[] = {0x10, 0x00, 0x12, 0x00, 0x21, 0x01, 0x00};
+    static const uint8_t named[] = {0x10, 0x00, 0x21, 0x00, 0x00, 0x12, 0x01};
+    uint64_t set[1] = {9}, full[1] = {~(uint64_t)0};
+
+    uint64_t opened[3] = {9, 9, 9};
+    opened[0] = lodhrussi_open(sheet, sizeof sheet, set, 1, &opened[1], &opened[2]);
+    line("open", opened, 3);
+
+    strike(sheet, sizeof sheet, full, 1);
+    strike(sheet, sizeof sheet, full, 2);
+    strike(sheet, sizeof sheet, full, 5);
+
+    uint64_t judged[5] = {9, 9, 9, 9, 9};
+    judged[0] = lodhrussi_judge(sheet, sizeof sheet, set, 1, &judged[1], &judged[2], &judged[3], &judged[4]);
+    line("judge", judged, 5);
+
+    refused_read(on_empty, sizeof on_empty);
+    refused_read(named, sizeof named);
+    export_sheet(sheet, sizeof sheet, 22);
+}
+
 int main(void)
 {
     static const uint8_t not_earlier[] = {0x04, 0x00};
@@ -98,10 +123,10 @@ int main(void)
     opened[0] = lodhrussi_open(s1, sizeof s1, set, 1, &opened[1], &opened[2]);
     line("open", opened, 3);
 
-    strike(set, 32);
-    strike(set, 2);
-    strike(set, 34);
-    strike(set, 64);
+    strike(s1, sizeof s1, set, 32);
+    strike(s1, sizeof s1, set, 2);
+    strike(s1, sizeof s1, set, 34);
+    strike(s1, sizeof s1, set, 64);
 
     uint64_t settled[3] = {9, 9, 9};
     settled[0] = lodhrussi_settle(s1, sizeof s1, set, 1, &settled[1], &settled[2]);
@@ -122,5 +147,6 @@ int main(void)
     refused_read(named_twice, sizeof named_twice);
 
     texts();
+    link_rules();
     return 0;
 }

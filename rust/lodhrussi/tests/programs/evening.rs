@@ -4,7 +4,7 @@
 use comparison::program::{assert_same, Program};
 use comparison::running::Running;
 use comparison::suites;
-use comparison::worked::{from_hex, JUDGED, S1};
+use comparison::worked::{from_hex, JUDGED, N8, N8_MET, S1};
 use std::fs::File;
 use std::time::Duration;
 
@@ -17,6 +17,8 @@ const S2: &str = JUDGED[2].0;
 const OF_EMPTY: &str = "traits 0 links 0 marks 0\nopening 1 survivors 1\ncan be met\n";
 const OF_S1: &str = "traits 1 links 1 marks 2\nopening 32 survivors 16\ncan be met\n";
 const OF_S2: &str = "traits 1 links 1 marks 2\nopening 16 survivors 0\ncannot be met\n";
+const OF_N8_MET: &str = "traits 0 links 2 marks 2\nopening 32 survivors 4\ncan be met\n";
+const OF_N8: &str = "traits 0 links 2 marks 2\nopening 16 survivors 0\ncannot be met\n";
 
 /// What is printed where a 256th record begins after [`longest`].
 const TOO_LONG: &str = "refused 3 at 763\n";
@@ -62,6 +64,19 @@ fn the_worked_sheets() {
         (vec![], OF_EMPTY),
     ];
     assert_all("worked sheets", &rows);
+}
+
+#[test]
+fn sheets_with_role_inclusions() {
+    let rows = [
+        (from_hex(N8_MET), OF_N8_MET),
+        (from_hex(N8), OF_N8),
+        (from_hex("10 00 21 00 00 12 01"), "refused 17 at 6\n"),
+        (from_hex("10 00 12 00 21 01 00"), "refused 8 at 4\n"),
+        (from_hex("10 00 01 21 01 00"), "refused 16 at 4\n"),
+        (from_hex("10 00 21 00"), "refused 2 at 2\n"),
+    ];
+    assert_all("role inclusions", &rows);
 }
 
 /// A fault of a reference is placed at its byte, other faults of a record where

@@ -42,11 +42,23 @@ pub fn import(text: &[u8], out: &mut [u8]) -> Result<usize, Refusal> {
 pub fn export(sheet: &[u8], out: &mut [u8]) -> Result<usize, Refusal> {
     crate::read(sheet)?;
     let written = Written::read(sheet)?;
-    let mut axioms = written.axioms.iter().zip(&written.starts);
-    if let Some((_, &start)) = axioms.find(|(axiom, _)| text::has_boolean_role(axiom)) {
-        return Err(Refusal::at(start, Fault::BooleanRole));
+    if let Some(start) = without_text(&written) {
+        return Err(Refusal::at(start, Fault::NoText));
     }
     put(text::lines(&written.axioms).as_bytes(), out)
+}
+
+/// Where the first axiom with a Boolean role starts, or the first role
+/// inclusion, whichever comes first.
+fn without_text(written: &Written) -> Option<usize> {
+    let mut axioms = written.axioms.iter().zip(&written.starts);
+    let boolean = axioms.find(|(axiom, _)| text::has_boolean_role(axiom));
+    let boolean = boolean.map(|(_, start)| start);
+    boolean
+        .into_iter()
+        .chain(&written.inclusion_starts)
+        .min()
+        .copied()
 }
 
 /// Puts bytes at the front of the output, if there is room.

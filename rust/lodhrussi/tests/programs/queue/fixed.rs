@@ -50,10 +50,12 @@ fn the_worked_sheets() {
     let mut queue = slots(&sheets, &mut random);
     queue.push(END_KIND);
     let expected = "0 met 1\n1 met 16\n2 unmet 0\n3 unmet 0\n4 unmet 0\n5 met 16\n6 met 85\n\
-                    7 met 4\n8 refused 10\n9 refused 4\n10 refused 9\n11 refused 5\n\
-                    12 refused 7\n13 refused 8\n14 refused 6\n15 refused 16\n\
-                    16 refused 17\n17 refused 17\n18 refused 17\n\
-                    sheets 19 met 5 unmet 3 refused 11 survivors 122\n";
+                    7 met 4\n8 met 4\n9 unmet 0\n10 met 9\n11 met 8\n12 met 48\n\
+                    13 refused 10\n14 refused 4\n15 refused 9\n16 refused 5\n\
+                    17 refused 7\n18 refused 8\n19 refused 6\n20 refused 16\n\
+                    21 refused 17\n22 refused 17\n23 refused 17\n24 refused 17\n\
+                    25 refused 8\n\
+                    sheets 26 met 9 unmet 4 refused 13 survivors 191\n";
     let comparisons = QUEUE.assert_prints(&queue, expected);
     report("worked sheets", comparisons);
 }
