@@ -32,7 +32,7 @@ CALLS = {
     "console": {".read": 1, ".write_all": 2},
     "evening": {"console::read_all": 1, "console::print": 1, ".stdin": 1, ".stdout": 1, ".stderr": 1},
     "queue": {"console::read_all": 1, "console::print": 1, ".stdin": 1, ".stdout": 1, ".stderr": 1},
-    "loads": {"print!": 3, "println!": 3, ".stdout": 1},
+    "loads": {"print!": 4, "println!": 3, ".stdout": 1},
 }
 # What neither reads nor writes, or only to standard error; and a reader of a sheet in memory.
 QUIET = {"io::decimal", "io::hex", "io::Read", "io::Print", "io::Result", "io::Stdout", "io::Stderr", "console::Printed", "console::complain", "Admitted::read"}
