@@ -80,7 +80,8 @@ abbrev within_not : List ℕ
 within_not = 0x01 ∷ 0x10 ∷ 0x00 ∷ 0x07 ∷ 0x01 ∷ 0x00 ∷ 0x20 ∷ 0x00 ∷ 0x02 ∷ 0x12 ∷ 0x01 ∷ 0x21 ∷ 0x01 ∷ 0x04 ∷ []
 
 -- after the sheets of 01: everything is t0 and t1; one restriction in three axioms, whose opening and survivors "now speak of the
--- shared marks" (02, N4); two links, the first within the second, or the second within the first (02, N8)
+-- shared marks" (02, N4); two links, the first within the second, the second within the first, the first within itself reversed and
+-- that within the second, and a link within its own not (02, N8)
 abbrev pub table : List Row
 table =
     works [] (counts 0 0 0) one 1 1 1 (1 ∷ []) (1 ∷ []) ∷
@@ -110,6 +111,8 @@ table =
     works with_inclusion (counts 0 2 2) four 16 0 0 (0 ∷ 0 ∷ 0 ∷ 0xf0f00000f0f ∷ []) (0 ∷ 0 ∷ 0 ∷ 0 ∷ []) ∷
     works (without_inclusion ++ (0x21 ∷ 0x02 ∷ 0x01 ∷ [])) (counts 0 2 2) four 32 4 1 (0 ∷ 0 ∷ 0 ∷ 0xffff0000ffff ∷ [])
     (0 ∷ 0 ∷ 0 ∷ 0x8888 ∷ []) ∷
+    works (without_inclusion ++ (0x11 ∷ 0x00 ∷ 0x21 ∷ 0x01 ∷ 0x08 ∷ 0x21 ∷ 0x08 ∷ 0x02 ∷ [])) (counts 0 2 2) four 8 0 0
+    (0 ∷ 0 ∷ 0 ∷ 0xf0000000f ∷ []) (0 ∷ 0 ∷ 0 ∷ 0 ∷ []) ∷
     works within_not (counts 0 1 1) one 4 0 0 (0x3300 ∷ []) (0 ∷ []) ∷
     []
 

@@ -21,7 +21,7 @@ use Rattle.owl_import.specs.Grammar.{Parsed, refused, done, axioms, parse, most}
 use Rattle.syntax.specs.Laid.{rec_of, rec_bytes, reach}
 use Rattle.owl_import.specs.RecordsOf.{put_axioms}
 use Rattle.owl_export.specs.AxiomText.{axioms_text, composed, has_composed, beyond}
-use Rattle.syntax.specs.WrittenAlike.{bare_axioms, WrittenAlike, axioms_names, axioms_roles, inclusions_roles, Occurring}
+use Rattle.syntax.specs.WrittenAlike.{bare_axioms, WrittenAlike, axioms_names, axioms_roles, Occurring}
 use Rattle.output.specs.Output.{Output, refuse, write, output_says, output_leaves}
 use Rattle.owl_import.specs.Import.{sheet_of, importing, imported}
 use Rattle.owl_export.specs.Export.{calls_for20, first_beyond, export_at, export_of, exporting, exported}
@@ -252,11 +252,6 @@ made : (k m : Kb) → k.names ≡ m.names → k.roles ≡ m.roles → bare_axiom
     WrittenAlike k m
 made k m n l a i = rw (n, l, a, i)
 
--- without role inclusions the roles that occur are those of axioms
-axioms-occur : (k : Kb) → k.inclusions ≡ [] → Occurring k → axioms_roles k.axioms ≡ k.roles
-unfolding inclusions_roles
-axioms-occur k i o = omega (arith, o.roles, ap inclusions_roles i)
-
 pub round_trip_answers : (sheet text : List ℕ) (k : Kb) → read_kb limit sheet ≡ kb k → Occurring k → exported sheet ≡ write text → Kept k (imported text)
 round_trip_answers sheet text k e o x = go (imported text) (round_trip sheet text x)
   where
@@ -265,7 +260,7 @@ round_trip_answers sheet text k e o x = go (imported text) (round_trip sheet tex
         let c = counted-bare k.axioms in
         let m : Kb = kb_of w.state in
         let n : m.names ≡ k.names = w.names ∙ c.0 ∙ o.names in
-        let l : m.roles ≡ k.roles = w.roles ∙ c.1 ∙ axioms-occur k i o in
+        let l : m.roles ≡ k.roles = w.roles ∙ c.1 ∙ o.roles in
         let a : WrittenAlike k m = made k m (sym n) (sym l) (sym w.alike) (i ∙ sym w.inclusions) in
         same m (kept_read limit k m new w.state w.read refl a (kb-small limit sheet e)) a (alike-answers k m a)
 

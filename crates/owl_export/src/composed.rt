@@ -1,4 +1,4 @@
-// What the text has no form for: a role with not, and, or in a rule, and a role inclusion.
+// What the text has no form for: a role with not, and, or in an axiom, and a role inclusion.
 ghost use Rattle.std.specs.Prelude.{◌≡◌};
 ghost use Rattle.owl_export.specs.AxiomText.{composed, has_composed};
 ghost use Rattle.flattening.specs.Trees.{role_at};
@@ -43,7 +43,7 @@ fn has_composed(tree: Tree) -> bool
     }
 }
 
-// Does record i call for refusal 20? A rule does, by what it reaches, and each role inclusion.
+// Does record i call for refusal 20? An axiom does, by what it reaches, and each role inclusion.
 fn calls_for_20(table: &Table, i: u8) -> bool
     ensures { result ≡ calls_at table.now i }
 {

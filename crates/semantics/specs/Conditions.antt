@@ -88,8 +88,8 @@ module _ (v : View) where
   unfoldable pub sustained : Dominoes → ℕ → ℕ → ℕ → Bool
   sustained D A R B = delex D A && (deluni D A && sym D A R B)
 
-  -- 002, Definition 5's 𝔻ᵢ: "𝔻₀ consists of all dominoes ⟨A, R, B⟩ satisfying" kb, ex and uni, and here rbox; "Given a domino set 𝔻ᵢ, the set 𝔻ᵢ₊₁
-  -- consists of all dominoes ⟨A, R, B⟩ ∈ 𝔻ᵢ satisfying" delex, deluni and sym, of 𝔻ᵢ
+  -- 002, Definition 5's 𝔻ᵢ: "𝔻₀ consists of all dominoes ⟨A, R, B⟩ satisfying" kb, ex and uni, and here rbox; "Given a domino set 𝔻ᵢ,
+  -- the set 𝔻ᵢ₊₁ consists of all dominoes ⟨A, R, B⟩ ∈ 𝔻ᵢ satisfying" delex, deluni and sym, of 𝔻ᵢ
   unfoldable pub stage : ℕ → Dominoes
   stage zero = initially
   stage (suc i) = λ A R B. stage i A R B && sustained (stage i) A R B

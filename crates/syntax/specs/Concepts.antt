@@ -24,8 +24,8 @@ pub record Axiom : Type 0 where
   pub left : Concept
   pub right : Concept
 
--- a role inclusion (002: "axioms of the form U ⊑ V (role inclusion axiom)"); 02, N8: "wherever the first holds between two items, so
--- does the second"
+-- a role inclusion (002: "axioms of the form U ⊑ V (role inclusion axiom)", both restricted; here V need not be); 02, N8: "wherever
+-- the first holds between two items, so does the second"
 pub record RoleInclusion : Type 0 where
   pub left : Role
   pub right : Role

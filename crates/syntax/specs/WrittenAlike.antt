@@ -1,6 +1,6 @@
 -- Written alike (02, N7: "gives a sheet with the same rules written alike"): the same trees, whatever the records.
 use Rattle.std.specs.Prelude.{ℕ, suc, max, List, [], ◌∷◌, map, ◌≡◌}
-use Rattle.syntax.specs.Concepts.{Role, named, inverse, not_r, and_r, or_r, Concept, top_c, bottom_c, name_c, not_c, and_c, or_c, exists_c, forall_c, Axiom, RoleInclusion}
+use Rattle.syntax.specs.Concepts.{Role, named, inverse, not_r, and_r, or_r, Concept, top_c, bottom_c, name_c, not_c, and_c, or_c, exists_c, forall_c, Axiom}
 use Rattle.syntax.specs.Reading.{Kb}
 
 -- a concept without the numbers of records
@@ -63,11 +63,7 @@ unfoldable pub axioms_roles : List Axiom → ℕ
 axioms_roles [] = 0
 axioms_roles (a ∷ l) = max (max (roles_in a.left) (roles_in a.right)) (axioms_roles l)
 
-unfoldable pub inclusions_roles : List RoleInclusion → ℕ
-inclusions_roles [] = 0
-inclusions_roles (i ∷ l) = max (max (role_no i.left) (role_no i.right)) (inclusions_roles l)
-
--- "whenever the trait and link numbers all occur in rules"
+-- "whenever the trait and link numbers all occur in rules", of a sheet that is exported, which has no role inclusion (02, N8)
 pub record Occurring (k : Kb) : Type 0 where
   pub names : axioms_names k.axioms ≡ k.names
-  pub roles : max (axioms_roles k.axioms) (inclusions_roles k.inclusions) ≡ k.roles
+  pub roles : axioms_roles k.axioms ≡ k.roles

@@ -17,7 +17,7 @@ fn inclusion_word(left: Tree, right: Tree, w: u64) -> u64
     bitset::join(bitset::complement(role_word(left, w)), role_word(right, w))
 }
 
-// Leaves, of some role sets, those on which the role inclusion of record i holds, if it is one.
+// Takes out of some role sets those on which record i, if it is a role inclusion, fails.
 fn meet_inclusion(table: &Table, i: u8, sets: &mut [u64; 4])
     ensures { Closes (inclusion_in table.now i) sets.old sets.new }
 {
