@@ -123,7 +123,7 @@ static inline const char *lodhrussi_refusal_sentence(uint64_t refusal)
     case LODHRUSSI_NAMED_AGAIN:
         return "The reference names a record that was named before and may be named only once.";
     case LODHRUSSI_LINK_ON_EMPTY:
-        return "The record is a some, only or link rule whose first link holds on the empty set of links.";
+        return "The record is a some, only or link rule whose (first) link holds on the empty set of links.";
     case LODHRUSSI_TOO_MANY_MARKS:
         return "The sheet has more than 12 marks and links together.";
     case LODHRUSSI_SET_TOO_SHORT:
@@ -137,7 +137,7 @@ static inline const char *lodhrussi_refusal_sentence(uint64_t refusal)
     case LODHRUSSI_CANNOT_STAND:
         return "The text goes on with what cannot stand there, or ends inside a form.";
     case LODHRUSSI_COMPOSED_LINK:
-        return "The rule is a link rule or has a link with not, and, or; the text of a sheet has neither.";
+        return "The rule is a link rule or has a link with not, and, or; the OWL text of a sheet has neither.";
     case LODHRUSSI_OUTPUT_TOO_SHORT:
         return "The output is too short for what is to be written.";
     default:

@@ -60,7 +60,8 @@ impl Condition {
         }
     }
 
-    /// Document 01's name of it; 7 has that of the axioms it is about.
+    /// Document 01's name of it; 7, which is not there, has 002's name for the
+    /// role inclusions.
     #[must_use]
     pub fn name(self) -> &'static str {
         match self {

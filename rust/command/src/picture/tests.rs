@@ -295,7 +295,7 @@ fn names_are_put_into_a_role() {
     let names = Names::parse("k0 = is fed by").expect("a name");
     let (_, picture) = drawn(&from_hex("10 00 12 00 01 07 01 02"), &names);
     let expected = "bad.hex: refused 8 at byte 5
-The record at byte 5 is a some, only or link rule whose first link holds on the empty set of \
+The record at byte 5 is a some, only or link rule whose (first) link holds on the empty set of \
 links. Byte 5 is 07 (some) and begins record 3: \
 its link, named at byte 6, is record 1 (12, not of a link, at byte 2).
   record 3 at byte 5:  07 01 02  some
@@ -311,7 +311,7 @@ fn a_link_rule_has_no_text() {
     let refusal = lodhrussi::export(&sheet, &mut []).expect_err("a link rule");
     let picture = picture("bad.hex", &sheet, &refusal, &Names::default());
     let expected = "bad.hex: refused 20 at byte 3
-The rule at byte 3 is a link rule or has a link with not, and, or; the text of a sheet has neither. \
+The rule at byte 3 is a link rule or has a link with not, and, or; the OWL text of a sheet has neither. \
 Byte 3 is 21 (link rule) and begins record 2.
   record 2 at byte 3:  21 01 01  link rule
                        ^^^^^^^^  found a link rule; wanted a rule about classes

@@ -94,7 +94,7 @@ fn names_in_a_picture() {
     let picture = |link: &str| {
         format!(
             "bad.hex: refused 8 at byte 5\n\
-             The record at byte 5 is a some, only or link rule whose first link holds on the \
+             The record at byte 5 is a some, only or link rule whose (first) link holds on the \
              empty set of links. Byte 5 is 07 (some) and begins record 3: \
              its link, named at byte 6, is record 1 (12, not of a link, at byte 2).\n\
              \x20 record 3 at byte 5:  07 01 02  some\n\

@@ -370,7 +370,7 @@ fn rules_that_have_no_text() {
     let hex = "01 10 00 11 01 12 02 13 01 03 07 04 00 04 05 20 00 00 20 06 00";
     let folder = Folder::with(&[("bad.hex", hex), ("bad.names", "k0 = feeds")]);
     let expected = "bad.hex: refused 20 at byte 18\n\
-        The rule at byte 18 is a link rule or has a link with not, and, or; the text of a sheet \
+        The rule at byte 18 is a link rule or has a link with not, and, or; the OWL text of a sheet \
         has neither. \
         Byte 18 is 20 (rule) and begins record 8: it reaches the link named at byte 11, \
         which is record 4 (13, and of links, at byte 7).
@@ -394,7 +394,7 @@ fn link_rules_that_have_no_text() {
     let boolean = "01 10 00 13 01 01 07 02 00 20 00 03 21 01 01";
     let folder = Folder::with(&[("n8.hex", N8), ("boolean.hex", boolean)]);
     let expected = "n8.hex: refused 20 at byte 18\n\
-        The rule at byte 18 is a link rule or has a link with not, and, or; the text of a sheet \
+        The rule at byte 18 is a link rule or has a link with not, and, or; the OWL text of a sheet \
         has neither. Byte 18 is 21 (link rule) and begins record 8.
   record 8 at byte 18:  21 01 02  link rule
                         ^^^^^^^^  found a link rule; wanted a rule about classes

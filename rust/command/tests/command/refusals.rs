@@ -158,7 +158,7 @@ const REFUSED: &[Refused] = &[
         hex: "10 00 12 00 01 07 01 02",
         number: 8,
         place: 5,
-        sentence: "The record at byte 5 is a some, only or link rule whose first link holds on \
+        sentence: "The record at byte 5 is a some, only or link rule whose (first) link holds on \
             the empty set of links. Byte 5 is 07 (some) and begins record 3: its link, \
             named at byte 6, is record 1 (12, not of a link, at byte 2).",
         drawn: &[
@@ -171,7 +171,7 @@ const REFUSED: &[Refused] = &[
         hex: "10 00 12 00 21 01 00",
         number: 8,
         place: 4,
-        sentence: "The record at byte 4 is a some, only or link rule whose first link holds on \
+        sentence: "The record at byte 4 is a some, only or link rule whose (first) link holds on \
             the empty set of links. Byte 4 is 21 (link rule) and begins record 2: its first \
             link, named at byte 5, is record 1 (12, not of a link, at byte 2).",
         drawn: &[

@@ -87,7 +87,7 @@ fn own(call: Call, number: u64) -> Option<(Subject, &'static str)> {
         ),
         (Export, 20) => (
             Axiom,
-            "is a link rule or has a link with not, and, or; the text of a sheet has neither",
+            "is a link rule or has a link with not, and, or; the OWL text of a sheet has neither",
         ),
         (Export, 21) => OUTPUT_TOO_SHORT,
         _ => return None,
@@ -115,7 +115,7 @@ fn of_sheet(number: u64) -> Option<(Subject, &'static str)> {
         ),
         8 => (
             Record,
-            "is a some, only or link rule whose first link holds on the empty set of links",
+            "is a some, only or link rule whose (first) link holds on the empty set of links",
         ),
         9 => (Sheet, "has more than 12 marks and links together"),
         _ => return None,

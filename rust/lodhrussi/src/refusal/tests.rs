@@ -34,7 +34,7 @@ const OF_SHEET: [(u64, &str); 11] = [
     ),
     (
         8,
-        "The record at byte 5 is a some, only or link rule whose first link holds on the empty \
+        "The record at byte 5 is a some, only or link rule whose (first) link holds on the empty \
          set of links.",
     ),
     (9, "The sheet has more than 12 marks and links together."),
@@ -70,7 +70,7 @@ const OF_TEXT: [(u64, &str); 4] = [
 ];
 
 const NO_TEXT: &str =
-    "The rule at byte 5 is a link rule or has a link with not, and, or; the text of a sheet has \
+    "The rule at byte 5 is a link rule or has a link with not, and, or; the OWL text of a sheet has \
      neither.";
 
 /// What a call of a sheet has beyond those.
