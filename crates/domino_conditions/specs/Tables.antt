@@ -13,7 +13,7 @@ use Rattle.tbox.specs.Promise.{kind_number, part_in}
 use Rattle.domino_conditions.specs.declared.conditions.Condition.{Condition}
 use Rattle.domino_conditions.specs.declared.conditions.Condition.TheVariants.{Kb, Ex, Uni, DelEx, DelUni, Sym, Rbox}
 
--- document 01's number of a condition, and of the first that fails: 0 for none
+-- the documents' number of a condition, and of the first that fails: 0 for none
 abbrev pub condition_number : Condition → ℕ
 condition_number Kb = 1
 condition_number Ex = 2

@@ -6,7 +6,7 @@ use mathlib.Core.Bool.{Bool, true, false, cond, ◌||◌, false≢true}
 use mathlib.Core.Option.{Option, none, some}
 use mathlib.Core.List.{List, [], ◌∷◌, ◌++◌}
 use lib.ListN.{length, drop}
-use lib.Dec.{leb, ltb}
+use lib.Dec.{ltb}
 use native.Mathlib.Omega.{arith}
 use borrow.Author.Tests.{ltb-true, ltb-false, le-leb}
 use Rattle.records.specs.Entries.{Entry}
@@ -15,6 +15,7 @@ use Rattle.syntax.specs.Concepts.{Role, named, inverse, not_r, and_r, or_r, Conc
 use Rattle.syntax.specs.Bounds.{All, RolesBelow, NamesBelow, EachRole, AxiomNames, AxiomRoles}
 use Rattle.syntax.specs.Reading.{Kb, Reading, refusal, kb, kb_of, parts_of, read_kb, reading, admit}
 use Rattle.syntax.specs.Answers.{limit}
+use Rattle.syntax.proofs.Refusals.{admit-nine}
 use Rattle.syntax.proofs.Trees.{nodes_length}
 use Rattle.syntax.proofs.Promised.{kb_state, kb-few, kb_bounded, kb-small}
 use Rattle.owl_import.specs.Grammar.{Parsed, refused, done, axioms, parse, most}
@@ -68,15 +69,8 @@ import_reads text sheet e = go (parse text) refl (parse_gives text) e
 
 -- "9 is left to reading the sheet": an imported sheet has no other fault
 pub import_faults : (text sheet : List ℕ) → imported text ≡ write sheet → (n p : ℕ) → read_kb limit sheet ≡ refusal n p → (n ≡ 9) × (p ≡ 0)
-unfolding read_kb reading admit
-import_faults text sheet e n p f = let w = (import_reads text sheet e).4 in go w.state (rw w.read at f)
-  where
-    nine : (b : Bool) (k : Kb) → cond b (kb k) (refusal 9 0) ≡ refusal n p → (n ≡ 9) × (p ≡ 0)
-    nine true k h = let z : ◌≡◌ {A = ℕ} 0 1 = cc in absurd (omega arith)
-    nine false k h = (cc, cc)
-
-    go : (st : State) → admit limit (kb_of st) ≡ refusal n p → (n ≡ 9) × (p ≡ 0)
-    go st h = nine (leb (length (parts_of (kb_of st)) + st.roles) limit) (kb_of st) h
+unfolding read_kb reading
+import_faults text sheet e n p f = let w = (import_reads text sheet e).4 in admit-nine limit n p (kb_of w.state) (rw w.read at f)
 
 -- axioms that call for no 20
 either : (b c : Bool) → b || c ≡ false → (b ≡ false) × (c ≡ false)

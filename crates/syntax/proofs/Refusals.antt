@@ -68,21 +68,26 @@ read_refusals n = one_wider (λ n. is_record_fault n || is_reference_fault n) 8 
 
 -- ---- the places
 
+-- a knowledge base is refused with 9 alone
+pub admit-nine : (limit n p : ℕ) (k : Kb) → admit limit k ≡ refusal n p → (n ≡ 9) × (p ≡ 0)
+unfolding admit
+admit-nine limit n p k = go (leb (length (parts_of k) + k.roles) limit)
+  where
+    go : (b : Bool) → cond b (kb k) (refusal 9 0) ≡ refusal n p → (n ≡ 9) × (p ≡ 0)
+    go true h = let z : ◌≡◌ {A = ℕ} 0 1 = cc in absurd (omega arith)
+    go false h = (cc, cc)
+
 module _ (limit : ℕ) (sheet : List ℕ) {n p : ℕ} (e : read_kb limit sheet ≡ refusal n p) where
   -- a refusal is a fault in the sheet, or 9
   pub refusal_cases : FaultPlaced sheet n p ⊎ ((n ≡ 9) × (p ≡ 0))
-  unfolding read_kb reading admit
+  unfolding read_kb reading
   refusal_cases = go (scan_sheet sheet) refl e
     where
-      nine : (b : Bool) (k : Kb) → cond b (kb k) (refusal 9 0) ≡ refusal n p → (n ≡ 9) × (p ≡ 0)
-      nine true k h = let z : ◌≡◌ {A = ℕ} 0 1 = cc in absurd (omega arith)
-      nine false k h = (cc, cc)
-
       go : (s : Scanning) → scan_sheet sheet ≡ s → reading limit s ≡ refusal n p → FaultPlaced sheet n p ⊎ ((n ≡ 9) × (p ≡ 0))
       go (refused m r) q h =
           let i : refused m r ≡ refused n p = cc in
           inl (sheet-placed sheet n p (q ∙ i))
-      go (whole st) q h = inr (nine (leb (length (parts_of (kb_of st)) + st.roles) limit) (kb_of st) h)
+      go (whole st) q h = inr (admit-nine limit n p (kb_of st) h)
 
   pub refusal-number : is_read_refusal n ≡ true
   unfolding is_read_refusal
