@@ -1,59 +1,10 @@
 //! The calls about domino sets, against the independent reference.
 
+mod product;
+
 use comparison::suites::{self, report};
-use comparison::{inclusions, misreference, Judging};
-use lodhrussi::Call;
-use reference::{Judgement, Refusal, Strike, Verdict};
-
-struct Product;
-
-/// The reference's form of a refusal of that call.
-fn refusal(call: Call, refusal: lodhrussi::Refusal) -> Refusal {
-    assert_eq!(refusal.call, call);
-    Refusal {
-        number: refusal.number,
-        place: refusal.place,
-    }
-}
-
-fn verdict(verdict: lodhrussi::Verdict) -> Verdict {
-    match verdict {
-        lodhrussi::Verdict::Absent => Verdict::Absent,
-        lodhrussi::Verdict::Struck { condition } => Verdict::Struck {
-            condition: condition.number() as u8,
-        },
-        lodhrussi::Verdict::Kept => Verdict::Kept,
-    }
-}
-
-impl Judging for Product {
-    fn open(&self, sheet: &[u8], set: &mut [u64]) -> Result<u64, Refusal> {
-        lodhrussi::open(sheet, set).map_err(|r| refusal(Call::Open, r))
-    }
-
-    fn strike(&self, sheet: &[u8], set: &mut [u64], number: u64) -> Result<Strike, Refusal> {
-        let strike = lodhrussi::strike(sheet, set, number);
-        let strike = strike.map_err(|r| refusal(Call::Strike, r))?;
-        Ok(Strike {
-            number: strike.number,
-            verdict: verdict(strike.verdict),
-        })
-    }
-
-    fn settle(&self, sheet: &[u8], set: &mut [u64]) -> Result<u64, Refusal> {
-        lodhrussi::settle(sheet, set).map_err(|r| refusal(Call::Settle, r))
-    }
-
-    fn judge(&self, sheet: &[u8], set: &mut [u64]) -> Result<Judgement, Refusal> {
-        let judgement = lodhrussi::judge(sheet, set);
-        let judgement = judgement.map_err(|r| refusal(Call::Judge, r))?;
-        Ok(Judgement {
-            opening: judgement.opening,
-            survivors: judgement.survivors,
-            met: judgement.met,
-        })
-    }
-}
+use comparison::{inclusions, misreference};
+use product::Product;
 
 #[test]
 fn worked_sheets() {

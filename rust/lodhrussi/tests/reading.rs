@@ -1,41 +1,16 @@
 //! The calls about a sheet alone, against the independent reference.
 
+mod product;
+
 use comparison::random::Random;
 use comparison::suites::{self, report};
-use comparison::{made_up, misreference, Reading};
-use lodhrussi::Call;
-use reference::{Counts, Refusal};
+use comparison::{made_up, misreference};
+use product::Product;
 
 /// Every refusal that the two calls have.
 const REFUSALS: [usize; 12] = [1, 2, 3, 4, 5, 6, 7, 8, 9, 12, 16, 17];
 
 const MADE_UP: u64 = 30_000;
-
-struct Product;
-
-/// The reference's form of a refusal of that call.
-fn refusal(call: Call, refusal: lodhrussi::Refusal) -> Refusal {
-    assert_eq!(refusal.call, call);
-    Refusal {
-        number: refusal.number,
-        place: refusal.place,
-    }
-}
-
-impl Reading for Product {
-    fn read(&self, sheet: &[u8]) -> Result<Counts, Refusal> {
-        let counts = lodhrussi::read(sheet).map_err(|r| refusal(Call::Read, r))?;
-        Ok(Counts {
-            traits: counts.traits,
-            links: counts.links,
-            marks: counts.marks,
-        })
-    }
-
-    fn list_marks(&self, sheet: &[u8], list: &mut [u8]) -> Result<(), Refusal> {
-        lodhrussi::list_marks(sheet, list).map_err(|r| refusal(Call::ListMarks, r))
-    }
-}
 
 #[test]
 fn worked_sheets() {

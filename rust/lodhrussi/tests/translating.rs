@@ -1,42 +1,12 @@
 //! The calls from and to OWL 2 functional-style syntax, against the independent
 //! reference.
 
+mod product;
+
 use comparison::owl::{nested, suites};
 use comparison::suites::report;
-use comparison::Translating;
-use lodhrussi::Call;
-use reference::{Judgement, Refusal};
+use product::Product;
 use std::thread::Builder;
-
-struct Product;
-
-/// The reference's form of a refusal of that call.
-fn refusal(call: Call, refusal: lodhrussi::Refusal) -> Refusal {
-    assert_eq!(refusal.call, call);
-    Refusal {
-        number: refusal.number,
-        place: refusal.place,
-    }
-}
-
-impl Translating for Product {
-    fn import(&self, text: &[u8], out: &mut [u8]) -> Result<usize, Refusal> {
-        lodhrussi::import(text, out).map_err(|r| refusal(Call::Import, r))
-    }
-
-    fn export(&self, sheet: &[u8], out: &mut [u8]) -> Result<usize, Refusal> {
-        lodhrussi::export(sheet, out).map_err(|r| refusal(Call::Export, r))
-    }
-}
-
-fn judge(sheet: &[u8], set: &mut [u64]) -> Result<Judgement, Refusal> {
-    let judgement = lodhrussi::judge(sheet, set).map_err(|r| refusal(Call::Judge, r))?;
-    Ok(Judgement {
-        opening: judgement.opening,
-        survivors: judgement.survivors,
-        met: judgement.met,
-    })
-}
 
 #[test]
 fn fixed_texts_and_sheets() {
@@ -75,7 +45,7 @@ fn made_up_sheets() {
 
 #[test]
 fn round_trips() {
-    let trips = suites::round_trips(&Product, judge);
+    let trips = suites::round_trips(&Product);
     report("exported and imported again", &trips);
 }
 

@@ -9,7 +9,7 @@ use super::{
 use crate::hex::{from_hex, Hex};
 use crate::random::Random;
 use crate::suites::times;
-use crate::{damage, few_axioms, made_up, worked, Reference, Translating};
+use crate::{damage, few_axioms, made_up, worked, Judging, Reference, Translating};
 use reference::domino::Shape;
 use reference::{Counts, Judgement, Refusal};
 use std::fmt;
@@ -270,9 +270,6 @@ fn of_text(random: &mut Random) -> Vec<u8> {
     }
 }
 
-/// The call judge.
-pub type Judge = fn(&[u8], &mut [u64]) -> Result<Judgement, Refusal>;
-
 /// What came of sheets that were exported and imported again, and of texts that
 /// were imported and exported.
 #[derive(Default)]
@@ -304,7 +301,7 @@ impl fmt::Display for RoundTrips {
 /// # Panics
 ///
 /// Where that is not so, or a sort of sheet is rare.
-pub fn round_trips(engine: &impl Translating, judge: Judge) -> RoundTrips {
+pub fn round_trips(engine: &(impl Translating + Judging)) -> RoundTrips {
     let mut random = Random::seeded(34);
     let mut trips = RoundTrips::default();
     for turn in 0..times(4_000) {
@@ -312,7 +309,7 @@ pub fn round_trips(engine: &impl Translating, judge: Judge) -> RoundTrips {
             0 => with_shared_leaves(&mut random),
             _ => with_text(&mut random),
         };
-        trips.sheet(engine, judge, &sheet);
+        trips.sheet(engine, &sheet);
         let text = text(&mut random);
         trips.text(engine, &text);
     }
@@ -332,7 +329,7 @@ fn written(engine: &impl Translating, call: Call<'_>) -> Result<Vec<u8>, Refusal
 
 impl RoundTrips {
     /// A sheet that has a text.
-    fn sheet(&mut self, engine: &impl Translating, judge: Judge, sheet: &[u8]) {
+    fn sheet(&mut self, engine: &(impl Translating + Judging), sheet: &[u8]) {
         self.sheets += 1;
         let text = written(engine, Call::Export(sheet)).expect("a sheet with a text");
         let again = match written(engine, Call::Import(&text)) {
@@ -345,15 +342,15 @@ impl RoundTrips {
         };
         let text_again = written(engine, Call::Export(&again));
         assert_eq!(text_again.as_deref(), Ok(&text[..]), "{}", Hex(sheet));
-        self.verdict(judge, sheet, &again);
+        self.verdict(engine, sheet, &again);
     }
 
     /// A sheet and that of its text.
-    fn verdict(&mut self, judge: Judge, sheet: &[u8], again: &[u8]) {
-        let Some((counts, judgement, set)) = judged(judge, sheet) else {
+    fn verdict(&mut self, engine: &impl Judging, sheet: &[u8], again: &[u8]) {
+        let Some((counts, judgement, set)) = judged(engine, sheet) else {
             return;
         };
-        let judged_again = judged(judge, again).expect("as many parts or fewer");
+        let judged_again = judged(engine, again).expect("as many parts or fewer");
         let (counts_again, judgement_again, set_again) = judged_again;
         assert_eq!(judgement.met, judgement_again.met, "{}", Hex(sheet));
         self.met += u64::from(judgement.met);
@@ -384,7 +381,7 @@ impl RoundTrips {
 
 /// The counts of a sheet without faults, what judging it answers, and the words;
 /// none if these are many.
-fn judged(judge: Judge, sheet: &[u8]) -> Option<(Counts, Judgement, Vec<u64>)> {
+fn judged(engine: &impl Judging, sheet: &[u8]) -> Option<(Counts, Judgement, Vec<u64>)> {
     let counts = reference::read(sheet).expect("a sheet without faults");
     let shape = Shape {
         parts: counts.marks as usize,
@@ -394,6 +391,6 @@ fn judged(judge: Judge, sheet: &[u8]) -> Option<(Counts, Judgement, Vec<u64>)> {
         return None;
     }
     let mut set = vec![0; shape.words()];
-    let judgement = judge(sheet, &mut set).expect("a set long enough");
+    let judgement = engine.judge(sheet, &mut set).expect("a set long enough");
     Some((counts, judgement, set))
 }
