@@ -2,7 +2,7 @@
 -- values; a refusal has no values.
 use Rattle.std.specs.Prelude.{ℕ, ◌+◌, List, [], ◌∷◌, get_or}
 use Rattle.syntax.specs.Reading.{read_kb}
-use Rattle.syntax.specs.Answers.{limit, read_says, list_says, list_leaves}
+use Rattle.syntax.specs.Answers.{limit, read_says, SumKept, list_says, list_leaves}
 use Rattle.output.specs.Output.{output_says, output_leaves}
 use Rattle.owl_import.specs.Import.{imported}
 use Rattle.owl_export.specs.Export.{exported}
@@ -26,6 +26,10 @@ value_out i says before = get_or says (2 + i) before
 -- what each call says of a sheet's bytes, and what it leaves of the list or the words that are lent
 abbrev pub read_said : List ℕ → List ℕ
 read_said sheet = read_says (read_kb limit sheet)
+
+-- 02, N9: "every call passing them on must keep their sum equal to c"
+abbrev pub SumOut : List ℕ → ℕ → ℕ → ℕ → ℕ → Type 0
+SumOut sheet t f e u = SumKept (read_kb limit sheet) (record { names = t; fresh = f; existentials = e; universals = u })
 
 abbrev pub list_said : List ℕ → List ℕ → List ℕ
 list_said sheet list = list_says (read_kb limit sheet) list

@@ -7,7 +7,7 @@ ghost use Rattle.std.specs.Prelude.{◌≡◌, get_or};
 ghost use Rattle.refusals.specs.Numbers.{refusal_numbers};
 ghost use Rattle.domino.specs.Answers.{verdict_is, verdict_numbers};
 ghost use Rattle.capi.specs.Out.{result_out, place_out, value_out};
-ghost use Rattle.capi.specs.Out.{read_said, list_said, list_left, open_said, open_left, strike_said, strike_left, settle_said, settle_left, judge_said, judge_left};
+ghost use Rattle.capi.specs.Out.{read_said, SumOut, list_said, list_left, open_said, open_left, strike_said, strike_left, settle_said, settle_left, judge_said, judge_left};
 ghost use Rattle.capi.specs.Out.{import_said, import_left, export_said, export_left};
 
 use domino::Verdict;
@@ -22,27 +22,34 @@ fn refuse(refusal: Refusal, place: &mut u64) -> u64
     u64::from(refusal.reason.number())
 }
 
-// Read: T, L and c.
+// Read: how many parts are names, fresh names, existentials and universals, and how many roles there are.
 #[unsafe(no_mangle)]
 pub extern "C" fn lodhrussi_read(
     sheet: &[u8],
     place: &mut u64,
     traits: &mut u64,
+    fresh: &mut u64,
+    some: &mut u64,
+    only: &mut u64,
     links: &mut u64,
-    marks: &mut u64,
 ) -> u64
     ensures value { result ≡ result_out (read_said sheet.now) }
     ensures place_after { place.new ≡ place_out (read_said sheet.now) place.old }
     ensures traits_after { traits.new ≡ value_out 0 (read_said sheet.now) traits.old }
-    ensures links_after { links.new ≡ value_out 1 (read_said sheet.now) links.old }
-    ensures marks_after { marks.new ≡ value_out 2 (read_said sheet.now) marks.old }
+    ensures fresh_after { fresh.new ≡ value_out 1 (read_said sheet.now) fresh.old }
+    ensures some_after { some.new ≡ value_out 2 (read_said sheet.now) some.old }
+    ensures only_after { only.new ≡ value_out 3 (read_said sheet.now) only.old }
+    ensures links_after { links.new ≡ value_out 4 (read_said sheet.now) links.old }
+    ensures sum { SumOut sheet.now traits.new fresh.new some.new only.new }
 {
     match tbox::read(sheet) {
         Err(refusal) => refuse(refusal, place),
         Ok(counts) => {
             *traits = counts.names as u64;
+            *fresh = counts.fresh as u64;
+            *some = counts.existentials as u64;
+            *only = counts.universals as u64;
             *links = counts.roles as u64;
-            *marks = counts.parts as u64;
             0
         }
     }

@@ -6,7 +6,7 @@ use mathlib.Core.Bool.{Bool, true, false, ◌&&◌, cond}
 use mathlib.Core.List.{List, [], ◌∷◌, ◌++◌}
 use Prim.Native.Nat.{ℕ, ◌*◌, ◌≤◌, ◌<◌}
 use native.Mathlib.Omega.{arith}
-use lib.Dec.{ltb}
+use lib.Dec.{eqb, ltb}
 use lib.ListN.{length, take, drop, length-append, length-drop}
 use lib.Seq.{take_at, drop_at}
 use borrow.Author.Tests.{le-ltb, ltb-true, ltb-false}
@@ -20,7 +20,9 @@ use Rattle.elimination.proofs.Written.{strike-long, written-long, written-past, 
 use Rattle.records.specs.Places.{is_record_fault, is_reference_fault, Placed}
 use Rattle.records.proofs.Places.{place_none}
 use Rattle.syntax.specs.Reading.{Kb, Reading, refusal, kb, parts_of, read_kb, is_read_refusal}
-use Rattle.syntax.specs.Answers.{limit, read_says, list_says, list_leaves, bytes_of, is_list_refusal}
+use Rattle.syntax.specs.Answers.{limit, read_says, list_says, list_leaves, bytes_of, kinds_listed, is_list_refusal}
+use Rattle.syntax.proofs.Counting.{counts_sum, names_counted, counts_listed}
+use Rattle.std.specs.List.{count_by}
 use Rattle.syntax.proofs.ListBytes.{bytes-long}
 use Rattle.syntax.proofs.Refusals.{UpTo, one_more, one_wider, read_refusals, refusal-number, refusal-placed}
 use Rattle.semantics.specs.Conditions.{View, dominoes, initial, defective, canon, held}
@@ -262,11 +264,17 @@ demand_1-listed sheet k e list =
     let c : ℕ = needed k in
     record {
       reads = ap read_says e;
+      sum = counts_sum (parts_of k);
+      names = names_counted k;
       lists = λ h. ap (λ (s : Reading). list_says s list) e ∙ rw (le-ltb (length list) c h);
       bytes = λ h.
           ap (λ (s : Reading). take c (list_leaves s list)) e
           ∙ rw (le-ltb (length list) c h) (take_at (bytes_of (parts_of k)) (drop c list) c (bytes-long (parts_of k)));
       past = (list-refuses sheet list).past k e;
+      kinds = λ h n.
+          ap (λ (s : Reading). count_by (λ b. eqb b n) (kinds_listed (take c (list_leaves s list)))) e
+          ∙ rw (le-ltb (length list) c h)
+          (rw (take_at (bytes_of (parts_of k)) (drop c list) c (bytes-long (parts_of k))) (counts_listed n (parts_of k)));
     }
 
 -- ---- enough words

@@ -1,13 +1,15 @@
 -- What the request's demands 1 to 3 say of the answers and of the words left. Proved in proofs/Demand1.antt, Demand2.antt and
 -- Demand3.antt.
 use Rattle.std.specs.Prelude.{ℕ, ◌*◌, ◌≤◌, ◌<◌, ◌≡◌, ◌⊎◌, Bool, true, false, ◌&&◌, List, [], ◌∷◌, eqb, length, get_or, take, drop}
+use Rattle.std.specs.List.{count_by}
 use Rattle.bitset.specs.Bits.{look, size, ones_of}
 use Rattle.elimination.specs.Sets.{Sub, Same}
 use Rattle.elimination.specs.Elimination.{Largest}
 use Rattle.elimination.specs.Calls.{Call, strike, settle, run_with, Passes}
 use Rattle.records.specs.Places.{Placed}
 use Rattle.syntax.specs.Reading.{Kb, Reading, refusal, kb, parts_of, read_kb, is_read_refusal}
-use Rattle.syntax.specs.Answers.{limit, read_says, list_says, list_leaves, bytes_of, is_list_refusal}
+use Rattle.syntax.specs.Counts.{PartCounts, counts_of, count_kind, sum_of}
+use Rattle.syntax.specs.Answers.{limit, read_says, list_says, list_leaves, bytes_of, kinds_listed, is_list_refusal}
 use Rattle.semantics.specs.Interpretations.{Interpretation, models}
 use Rattle.semantics.specs.Dominoes.{Met, Domino, number, left_of, right_of_lem, inverse, numbered}
 use Rattle.semantics.specs.Conditions.{View, stage, SameDominoes, Final, LargestStable, dominoes, initial, defective, defect_at, canon_dominoes, held}
@@ -64,12 +66,17 @@ pub record Demand1 (sheet list ws : List ℕ) (n : ℕ) : Type 0 where
 -- "Where the input is sound the call does its work": read and list marks, for a sheet that is read as s, which is the knowledge
 -- base k, and any list
 pub record Demand1Listed (s : Reading) (k : Kb) (list : List ℕ) : Type 0 where
-  -- "Read answers T, L and c."
-  pub reads : read_says s ≡ 0 ∷ 0 ∷ k.names ∷ k.roles ∷ length (parts_of k) ∷ []
+  -- 02, N9: "Read shall give four counts, traits, fresh, some and only", and L; "their sum equal to c"; the first is T
+  pub reads : let n : PartCounts = counts_of (parts_of k) in read_says s ≡ 0 ∷ 0 ∷ n.names ∷ n.fresh ∷ n.existentials ∷ n.universals ∷ k.roles ∷ []
+  pub sum : sum_of (counts_of (parts_of k)) ≡ length (parts_of k)
+  pub names : (counts_of (parts_of k)).names ≡ k.names
   -- a list of 3c bytes is not refused: c is answered, "three bytes for each mark" are written, "Bytes past 3c are kept."
   pub lists : 3 * length (parts_of k) ≤ length list → list_says s list ≡ 0 ∷ 0 ∷ length (parts_of k) ∷ []
   pub bytes : 3 * length (parts_of k) ≤ length list → take (3 * length (parts_of k)) (list_leaves s list) ≡ bytes_of (parts_of k)
   pub past : drop (3 * length (parts_of k)) (list_leaves s list) ≡ drop (3 * length (parts_of k)) list
+  -- each count is "the number of marks of that kind that the mark list holds"
+  pub kinds : 3 * length (parts_of k) ≤ length list → (n : ℕ)
+      → count_by (λ b. eqb b n) (kinds_listed (take (3 * length (parts_of k)) (list_leaves s list))) ≡ count_kind n (parts_of k)
 
 -- ---- for a sheet that is read as s, its view v, and words ws that are enough
 

@@ -6,7 +6,7 @@ use Rattle.elimination.specs.Calls.{Call, strike as call, settle}
 use Rattle.syntax.specs.Concepts.{named, top_c, bottom_c, forall_c}
 use Rattle.syntax.specs.Reading.{Kb, read_kb}
 use Rattle.syntax.specs.Answers.{limit, read_says}
-use Rattle.syntax.specs.Examples.{s1, s2, s3, s4, s5, s6, thrice, without_inclusion, with_inclusion}
+use Rattle.syntax.specs.Examples.{counts, s1, s2, s3, s4, s5, s6, thrice, without_inclusion, with_inclusion}
 use Rattle.semantics.specs.Dominoes.{total}
 use Rattle.domino.specs.Answers.{open_says, open_leaves, strike_says, strike_leaves, settle_says, judge_says, judge_leaves}
 
@@ -56,10 +56,6 @@ opened4 = 0xff00 ∷ []
 abbrev opened5 : List ℕ
 opened5 = 0xffffffffffff0000 ∷ []
 
--- T, L and c
-abbrev counts : ℕ → ℕ → ℕ → List ℕ
-counts t l c = 0 ∷ 0 ∷ t ∷ l ∷ c ∷ []
-
 -- the opening size, the survivors, and whether it is met; the words before the last, opened and judged
 abbrev works : List ℕ → List ℕ → List ℕ → ℕ → ℕ → ℕ → List ℕ → List ℕ → Row
 works s r l o n m p q = row s r l (0 ∷ 0 ∷ o ∷ []) (lend p) (0 ∷ 0 ∷ n ∷ []) (0 ∷ 0 ∷ o ∷ n ∷ m ∷ []) (lend q)
@@ -73,7 +69,7 @@ refused s l n p = row s (n ∷ p ∷ []) l (n ∷ p ∷ []) l (n ∷ p ∷ []) (
 
 -- S4's row
 abbrev pub row4 : Row
-row4 = works s4 (counts 0 1 1) one 8 0 0 opened4 (0 ∷ [])
+row4 = works s4 (counts 0 0 1 0 1) one 8 0 0 opened4 (0 ∷ [])
 
 -- everything is some k0 everything, and k0 is within not k0, which holds on the empty set
 abbrev within_not : List ℕ
@@ -84,19 +80,19 @@ within_not = 0x01 ∷ 0x10 ∷ 0x00 ∷ 0x07 ∷ 0x01 ∷ 0x00 ∷ 0x20 ∷ 0x00
 -- that within the second, and a link within its own not (02, N8)
 abbrev pub table : List Row
 table =
-    works [] (counts 0 0 0) one 1 1 1 (1 ∷ []) (1 ∷ []) ∷
-    short [] (counts 0 0 0) [] ∷
-    works s1 (counts 1 1 2) one 32 16 1 opened1 (0xcccccccc00000000 ∷ []) ∷
-    short s1 (counts 1 1 2) [] ∷
-    works s2 (counts 1 1 2) one 16 0 0 (0xffff00000000 ∷ []) (0 ∷ []) ∷
-    works s3 (counts 1 1 3) four 64 0 0 (0 ∷ 0xffffffff ∷ 0 ∷ 0xffff0000ffff ∷ []) (0 ∷ 0 ∷ 0 ∷ 0 ∷ []) ∷
-    short s3 (counts 1 1 3) one ∷
+    works [] (counts 0 0 0 0 0) one 1 1 1 (1 ∷ []) (1 ∷ []) ∷
+    short [] (counts 0 0 0 0 0) [] ∷
+    works s1 (counts 1 0 1 0 1) one 32 16 1 opened1 (0xcccccccc00000000 ∷ []) ∷
+    short s1 (counts 1 0 1 0 1) [] ∷
+    works s2 (counts 1 0 1 0 1) one 16 0 0 (0xffff00000000 ∷ []) (0 ∷ []) ∷
+    works s3 (counts 1 0 1 1 1) four 64 0 0 (0 ∷ 0xffffffff ∷ 0 ∷ 0xffff0000ffff ∷ []) (0 ∷ 0 ∷ 0 ∷ 0 ∷ []) ∷
+    short s3 (counts 1 0 1 1 1) one ∷
     row4 ∷
-    works s5 (counts 1 1 2) one 48 16 1 opened5 (0xcccccccc00000000 ∷ []) ∷
-    works s6 (counts 1 1 3) four 144 85 1 (0xfff0fff ∷ 0xffffffffffffffff ∷ 0xfff0fff ∷ 0xffffffff ∷ [])
+    works s5 (counts 1 0 0 1 1) one 48 16 1 opened5 (0xcccccccc00000000 ∷ []) ∷
+    works s6 (counts 1 1 1 0 1) four 144 85 1 (0xfff0fff ∷ 0xffffffffffffffff ∷ 0xfff0fff ∷ 0xffffffff ∷ [])
     (0xd5d0d5d ∷ 0x5d5d5d5d5d5d5d5d ∷ 0xc4c0d5d ∷ 0x4c4c5d5d ∷ []) ∷
-    works (0x03 ∷ 0x00 ∷ []) (counts 1 0 1) one 4 4 1 (0xf ∷ []) (0xf ∷ []) ∷
-    short (0x03 ∷ 0x0b ∷ []) (counts 12 0 12) one ∷
+    works (0x03 ∷ 0x00 ∷ []) (counts 1 0 0 0 0) one 4 4 1 (0xf ∷ []) (0xf ∷ []) ∷
+    short (0x03 ∷ 0x0b ∷ []) (counts 12 0 0 0 0) one ∷
     refused (0x03 ∷ 0x0c ∷ []) one 4 0 ∷
     refused (0x03 ∷ 0x0b ∷ 0x10 ∷ 0x00 ∷ []) one 9 0 ∷
     refused (0x04 ∷ 0x00 ∷ []) one 5 1 ∷
@@ -104,16 +100,16 @@ table =
     refused (0x10 ∷ 0x00 ∷ 0x12 ∷ 0x00 ∷ 0x01 ∷ 0x07 ∷ 0x01 ∷ 0x02 ∷ []) one 8 5 ∷
     refused (0x01 ∷ 0x10 ∷ 0x00 ∷ 0x07 ∷ 0x00 ∷ 0x01 ∷ []) one 16 4 ∷
     refused (0x01 ∷ 0x20 ∷ 0x00 ∷ 0x00 ∷ 0x04 ∷ 0x01 ∷ []) one 17 5 ∷
-    works (0x01 ∷ 0x03 ∷ 0x00 ∷ 0x03 ∷ 0x01 ∷ 0x05 ∷ 0x01 ∷ 0x02 ∷ 0x20 ∷ 0x00 ∷ 0x03 ∷ []) (counts 2 0 2) one 4 1 1
+    works (0x01 ∷ 0x03 ∷ 0x00 ∷ 0x03 ∷ 0x01 ∷ 0x05 ∷ 0x01 ∷ 0x02 ∷ 0x20 ∷ 0x00 ∷ 0x03 ∷ []) (counts 2 0 0 0 0) one 4 1 1
     (0xf000 ∷ []) (0x8000 ∷ []) ∷
-    works thrice (counts 1 1 2) one 32 16 1 opened1 (0xcccccccc00000000 ∷ []) ∷
-    works without_inclusion (counts 0 2 2) four 32 4 1 (0 ∷ 0 ∷ 0 ∷ 0xffff0000ffff ∷ []) (0 ∷ 0 ∷ 0 ∷ 0x8888 ∷ []) ∷
-    works with_inclusion (counts 0 2 2) four 16 0 0 (0 ∷ 0 ∷ 0 ∷ 0xf0f00000f0f ∷ []) (0 ∷ 0 ∷ 0 ∷ 0 ∷ []) ∷
-    works (without_inclusion ++ (0x21 ∷ 0x02 ∷ 0x01 ∷ [])) (counts 0 2 2) four 32 4 1 (0 ∷ 0 ∷ 0 ∷ 0xffff0000ffff ∷ [])
+    works thrice (counts 1 0 1 0 1) one 32 16 1 opened1 (0xcccccccc00000000 ∷ []) ∷
+    works without_inclusion (counts 0 0 1 1 2) four 32 4 1 (0 ∷ 0 ∷ 0 ∷ 0xffff0000ffff ∷ []) (0 ∷ 0 ∷ 0 ∷ 0x8888 ∷ []) ∷
+    works with_inclusion (counts 0 0 1 1 2) four 16 0 0 (0 ∷ 0 ∷ 0 ∷ 0xf0f00000f0f ∷ []) (0 ∷ 0 ∷ 0 ∷ 0 ∷ []) ∷
+    works (without_inclusion ++ (0x21 ∷ 0x02 ∷ 0x01 ∷ [])) (counts 0 0 1 1 2) four 32 4 1 (0 ∷ 0 ∷ 0 ∷ 0xffff0000ffff ∷ [])
     (0 ∷ 0 ∷ 0 ∷ 0x8888 ∷ []) ∷
-    works (without_inclusion ++ (0x11 ∷ 0x00 ∷ 0x21 ∷ 0x01 ∷ 0x08 ∷ 0x21 ∷ 0x08 ∷ 0x02 ∷ [])) (counts 0 2 2) four 8 0 0
+    works (without_inclusion ++ (0x11 ∷ 0x00 ∷ 0x21 ∷ 0x01 ∷ 0x08 ∷ 0x21 ∷ 0x08 ∷ 0x02 ∷ [])) (counts 0 0 1 1 2) four 8 0 0
     (0 ∷ 0 ∷ 0 ∷ 0xf0000000f ∷ []) (0 ∷ 0 ∷ 0 ∷ 0 ∷ []) ∷
-    works within_not (counts 0 1 1) one 4 0 0 (0x3300 ∷ []) (0 ∷ []) ∷
+    works within_not (counts 0 0 1 0 1) one 4 0 0 (0x3300 ∷ []) (0 ∷ []) ∷
     []
 
 -- a strike: a sheet, the words before, a number; what strike says, and what it leaves

@@ -22,7 +22,7 @@ fn read_sheet<'a, R: Read>(from: &mut R, buffer: &'a mut [u8]) -> io::Result<&'a
 }
 
 // The lines of a sheet, judged with 4,096 words.
-fn lines(sheet: &[u8]) -> ArrayVec<u8, 160>
+fn lines(sheet: &[u8]) -> ArrayVec<u8, 208>
     ensures { result.items ≡ printed sheet.now }
 {
     let mut set = [0u64; 4096];
@@ -32,7 +32,7 @@ fn lines(sheet: &[u8]) -> ArrayVec<u8, 160>
 }
 
 // The lines of what was read; none where a read failed.
-fn answer(input: io::Result<&[u8]>) -> ArrayVec<u8, 160>
+fn answer(input: io::Result<&[u8]>) -> ArrayVec<u8, 208>
     ensures { result.items ≡ answered input.entry }
 {
     match input {
@@ -42,7 +42,7 @@ fn answer(input: io::Result<&[u8]>) -> ArrayVec<u8, 160>
 }
 
 // Prints the lines of what was read.
-fn print(stdout: &Stdout, input: io::Result<&[u8]>) -> Printed<160>
+fn print(stdout: &Stdout, input: io::Result<&[u8]>) -> Printed<208>
     ensures { handed result ≡ answered input.entry }
 {
     console::print(stdout, answer(input))

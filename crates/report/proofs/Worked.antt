@@ -9,7 +9,8 @@ use native.Mathlib.Omega.{arith}
 use lib.ListN.{length, get_or, replicate, length-replicate}
 use borrow.Author.Tests.{lt-ltb, le-ltb}
 use Rattle.syntax.specs.Reading.{Kb, Reading, refusal, kb, parts_of, read_kb}
-use Rattle.syntax.specs.Answers.{limit, read_says}
+use Rattle.syntax.specs.Counts.{PartCounts}
+use Rattle.syntax.specs.Answers.{limit, counts_say, read_says}
 use Rattle.syntax.specs.Examples.{Row as ReadRow, s1, s2}
 use Rattle.syntax.proofs.Worked.{rows_right as reads-right}
 use Rattle.semantics.specs.Views.{kb_view}
@@ -40,21 +41,25 @@ read_at i rs = (get_or rs i (record { sheet = []; read = []; lent = []; listed =
 unfoldable pub judged_at : ℕ → List Row → List ℕ
 judged_at i rs = (get_or rs i (record { sheet = []; reads = []; lent = []; opens = []; opened = []; settles = []; judges = []; judged = [] })).judges
 
-prints : (sheet : List ℕ) (t l c o s m : ℕ) → read_says (read_kb limit sheet) ≡ 0 ∷ 0 ∷ t ∷ l ∷ c ∷ []
-    → judge_says (read_kb limit sheet) lent ≡ 0 ∷ 0 ∷ o ∷ s ∷ m ∷ [] → printed sheet ≡ judged_lines t l c (0 ∷ 0 ∷ o ∷ s ∷ m ∷ [])
+prints : (sheet : List ℕ) (n : PartCounts) (l o s m : ℕ) → read_says (read_kb limit sheet) ≡ counts_say n l
+    → judge_says (read_kb limit sheet) lent ≡ 0 ∷ 0 ∷ o ∷ s ∷ m ∷ [] → printed sheet ≡ judged_lines n l (0 ∷ 0 ∷ o ∷ s ∷ m ∷ [])
 unfolding printed
-prints sheet t l c o s m reads judges =
-    sym (lines_of (read_kb limit sheet) set4096 t l c (sym reads))
-    ∙ ap (judged_lines t l c) (more_words (read_kb limit sheet) lent set4096 (omega (arith, many)) (ap length judges) ∙ judges)
+prints sheet n l o s m reads judges =
+    sym (lines_of (read_kb limit sheet) set4096 n l (sym reads))
+    ∙ ap (judged_lines n l) (more_words (read_kb limit sheet) lent set4096 (omega (arith, many)) (ap length judges) ∙ judges)
 
--- "For sheet S1 below it prints exactly"
-pub s1-printed : printed s1 ≡ text "traits 1 links 1 marks 2\nopening 32 survivors 16\ncan be met\n"
-unfolding read_at judged_at judged_lines counts_line sizes_line verdict_line text decimal decimal_in
-s1-printed = prints s1 1 1 2 32 16 1 (ap (read_at 1) reads-right) (ap (judged_at 2) rows_right)
+-- a name and an existential
+abbrev one_some : PartCounts
+one_some = record { names = 1; fresh = 0; existentials = 1; universals = 0 }
 
-pub s2-printed : printed s2 ≡ text "traits 1 links 1 marks 2\nopening 16 survivors 0\ncannot be met\n"
+-- "For sheet S1 below it prints exactly"; 02, N9: "`traits 1 fresh 0 some 1 only 0 links 1` for S1"
+pub s1-printed : printed s1 ≡ text "traits 1 fresh 0 some 1 only 0 links 1\nopening 32 survivors 16\ncan be met\n"
 unfolding read_at judged_at judged_lines counts_line sizes_line verdict_line text decimal decimal_in
-s2-printed = prints s2 1 1 2 16 0 0 (ap (read_at 3) reads-right) (ap (judged_at 4) rows_right)
+s1-printed = prints s1 one_some 1 32 16 1 (ap (read_at 1) reads-right) (ap (judged_at 2) rows_right)
+
+pub s2-printed : printed s2 ≡ text "traits 1 fresh 0 some 1 only 0 links 1\nopening 16 survivors 0\ncannot be met\n"
+unfolding read_at judged_at judged_lines counts_line sizes_line verdict_line text decimal decimal_in
+s2-printed = prints s2 one_some 1 16 0 0 (ap (read_at 3) reads-right) (ap (judged_at 4) rows_right)
 
 -- ---- refusals
 

@@ -8,6 +8,7 @@ ghost use Rattle.refusals.specs.Numbers.{number};
 ghost use Rattle.report.specs.Text.{decimal};
 ghost use Rattle.syntax.specs.Reading.{read_kb};
 ghost use Rattle.syntax.specs.Answers.{limit};
+ghost use Rattle.tbox.specs.Answers.{part_counts};
 ghost use Rattle.domino.specs.Answers.{judge_numbers};
 ghost use Rattle.report.specs.Lines.{refused_line, counts_line, sizes_line, verdict_line, judged_lines, Reports};
 
@@ -55,16 +56,18 @@ pub(crate) fn put_refusal<const N: usize>(out: &mut ArrayVec<u8, N>, refusal: Re
     put_text(out, b"\n");
 }
 
-// The line of the counts of names, roles and parts.
+// The line of the counts of parts by kind and of roles.
 #[tactic(auto, unfolding(crate::specs::Text::text, crate::specs::Lines::counts_line))]
 pub(crate) fn put_counts<const N: usize>(out: &mut ArrayVec<u8, N>, counts: Counts)
-    requires { array_vec_len out.old + 82 ≤ N }
-    ensures puts { out.new.items ≡ out.old.items ++ counts_line counts.names counts.roles counts.parts }
-    ensures upper_bound { array_vec_len out.new ≤ array_vec_len out.old + 82 }
+    requires { array_vec_len out.old + 134 ≤ N }
+    ensures puts { out.new.items ≡ out.old.items ++ counts_line (part_counts counts) counts.roles }
+    ensures upper_bound { array_vec_len out.new ≤ array_vec_len out.old + 134 }
 {
     put_labelled(out, b"traits ", counts.names as u64);
+    put_labelled(out, b" fresh ", counts.fresh as u64);
+    put_labelled(out, b" some ", counts.existentials as u64);
+    put_labelled(out, b" only ", counts.universals as u64);
     put_labelled(out, b" links ", counts.roles as u64);
-    put_labelled(out, b" marks ", counts.parts as u64);
     put_text(out, b"\n");
 }
 
@@ -92,14 +95,14 @@ pub(crate) fn put_verdict<const N: usize>(out: &mut ArrayVec<u8, N>, met: bool)
     }
 }
 
-// The lines of what judge answered, beside the counts of names, roles and parts.
+// The lines of what judge answered, beside the counts of parts by kind and of roles.
 pub(crate) fn put_judged<const N: usize>(
     out: &mut ArrayVec<u8, N>,
     counts: Counts,
     answer: Result<Judgement, Refusal>,
 )
-    requires { array_vec_len out.old + 160 ≤ N }
-    ensures { out.new.items ≡ out.old.items ++ judged_lines counts.names counts.roles counts.parts (judge_numbers answer) }
+    requires { array_vec_len out.old + 208 ≤ N }
+    ensures { out.new.items ≡ out.old.items ++ judged_lines (part_counts counts) counts.roles (judge_numbers answer) }
 {
     match answer {
         Err(refusal) => put_refusal(out, refusal),
@@ -113,7 +116,7 @@ pub(crate) fn put_judged<const N: usize>(
 
 // Puts the evening program's lines for a sheet, judged with the lent words.
 pub fn evening<const N: usize>(sheet: &[u8], set: &mut [u64], out: &mut ArrayVec<u8, N>)
-    requires { array_vec_len out.old + 160 ≤ N }
+    requires { array_vec_len out.old + 208 ≤ N }
     ensures { Reports (read_kb limit sheet.now) set.old set.new out.old.items out.new.items }
 {
     match tbox::read(sheet) {

@@ -1,5 +1,6 @@
 pub mod Alike
 pub mod Bounded
+pub mod Counting
 pub mod Distinct
 pub mod Fewer
 pub mod Formed

@@ -1,17 +1,26 @@
 -- What read and list marks say and leave (01, "The calls, and what each refuses").
-use Rattle.std.specs.Prelude.{ℕ, ◌*◌, Bool, cond, ◌||◌, List, [], ◌∷◌, ◌++◌, length, drop, ltb, eqb}
+use Rattle.std.specs.Prelude.{ℕ, ◌≡◌, ◌*◌, Bool, cond, ◌||◌, List, [], ◌∷◌, ◌++◌, length, drop, ltb, eqb}
 use Rattle.syntax.specs.Normal.{Tag}
 use Rattle.syntax.specs.Flatten.{Part, name_p, fresh_p, exists_p, forall_p}
 use Rattle.syntax.specs.Reading.{Reading, refusal, kb, parts_of, is_read_refusal}
+use Rattle.syntax.specs.Counts.{PartCounts, counts_of, sum_of}
 
 -- "c + L is at most 12"
 abbrev pub limit : ℕ
 limit = 12
 
--- "read answers T, L and c"
+-- 02, N9: "Read shall give four counts, traits, fresh, some and only", and L beside them
+abbrev pub counts_say : PartCounts → ℕ → List ℕ
+counts_say n l = 0 ∷ 0 ∷ n.names ∷ n.fresh ∷ n.existentials ∷ n.universals ∷ l ∷ []
+
 unfoldable pub read_says : Reading → List ℕ
 read_says (refusal n p) = n ∷ p ∷ []
-read_says (kb k) = 0 ∷ 0 ∷ k.names ∷ k.roles ∷ length (parts_of k) ∷ []
+read_says (kb k) = counts_say (counts_of (parts_of k)) k.roles
+
+-- "every call passing them on must keep their sum equal to c": of a sheet that is read so, and the counts that are passed on
+abbrev pub SumKept : Reading → PartCounts → Type 0
+SumKept (refusal m p) n = Unit
+SumKept (kb k) n = sum_of n ≡ length (parts_of k)
 
 abbrev pub odd_no : Tag → ℕ
 odd_no g = cond g.odd 1 0
@@ -27,6 +36,13 @@ part_bytes (forall_p g u f) = 3 ∷ g.source ∷ odd_no g ∷ []
 unfoldable pub bytes_of : List Part → List ℕ
 bytes_of [] = []
 bytes_of (p ∷ ps) = part_bytes p ++ bytes_of ps
+
+-- the kinds in such a list: the first of each three bytes
+unfoldable pub kinds_listed : List ℕ → List ℕ
+kinds_listed [] = []
+kinds_listed (k ∷ []) = []
+kinds_listed (k ∷ n ∷ []) = []
+kinds_listed (k ∷ n ∷ o ∷ l) = k ∷ kinds_listed l
 
 -- "refuses as read does, then 12, list shorter than 3c bytes"
 unfoldable pub list_says : Reading → List ℕ → List ℕ

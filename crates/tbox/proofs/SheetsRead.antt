@@ -9,12 +9,15 @@ use Rattle.records.specs.Entries.{Entry}
 use Rattle.records.specs.RecordTable.{state_of, Scans}
 use Rattle.records.specs.declared.Progress.{Progress}
 use Rattle.syntax.specs.Reading.{Reading, refusal, kb, kb_of, parts_of, admit, reading, read_kb}
-use Rattle.syntax.specs.Answers.{limit, read_says, list_says, list_leaves}
+use Rattle.syntax.specs.Counts.{PartCounts, counts_of, sum_of}
+use Rattle.syntax.specs.Answers.{limit, counts_say, read_says, list_says, list_leaves}
+use Rattle.syntax.proofs.Counting.{counts_sum}
 use Rattle.syntax.proofs.Formed.{read-few}
 use Rattle.flattening.specs.Origins.{parts_made, slot_bytes}
 use Rattle.tbox.specs.declared.admission.Admitted.{Admitted}
 use Rattle.tbox.specs.declared.Counts.{Counts}
-use Rattle.tbox.specs.Answers.{read_numbers, Lists}
+use Rattle.tbox.specs.Answers.{read_numbers, part_counts, AnswersSum, Lists}
+use Rattle.tbox.specs.CountedParts.{CountsParts}
 use Rattle.tbox.specs.Admission.{kb_admitted, Reads}
 use Rattle.tbox.proofs.PartLists.{made-length}
 use Rattle.tbox.proofs.PartBytes.{slots-bytes}
@@ -56,10 +59,18 @@ module _ (sheet : List ℕ) (es : List Entry) (a : Admitted) (h : Reads sheet es
   pub count-is : length a.parts.items ≡ length (parts_of (kb_admitted es a))
   count-is = sym (made-length es a.names a.parts.items h.parts)
 
-  pub read_whole : (n : Counts) → n.names ≡ a.names → n.roles ≡ a.roles → n.parts ≡ length a.parts.items →
-      read_numbers (Ok n) ≡ read_says (read_kb limit sheet)
-  unfolding read_says
-  read_whole n t l c = rw (h.reading, t, l, c, count-is)
+  module _ (n : Counts) (c : CountsParts a.parts.items a.roles n) where
+    counts_are : part_counts n ≡ counts_of (parts_of (kb_admitted es a))
+    counts_are = rw h.parts at (c.parts es)
+
+    pub read_whole : read_numbers (Ok n) ≡ read_says (read_kb limit sheet)
+    unfolding read_says
+    read_whole =
+        rw (h.reading, c.roles)
+        (ap (λ (m : PartCounts). counts_say m a.roles) counts_are)
+
+    pub read-sum : AnswersSum (read_kb limit sheet) (Ok n)
+    read-sum = rw h.reading (ap sum_of counts_are ∙ counts_sum (parts_of (kb_admitted es a)))
 
   module _ (b : List ℕ) where
     pub list-short : (x : Refusal) → x.reason ≡ ListTooShort → x.place ≡ 0 → length b < 3 * length a.parts.items → Lists (read_kb limit sheet) b b (Err x)

@@ -1,17 +1,26 @@
 -- What each call answers and leaves (01, "The calls, and what each refuses").
-use Rattle.std.specs.Prelude.{ℕ, List, [], ◌∷◌, ◌≡◌, Result}
+use Rattle.std.specs.Prelude.{ℕ, List, [], ◌∷◌, ◌≡◌, Result, Ok, Err}
 use Rattle.refusals.specs.Numbers.{numbers_of}
 use Rattle.refusals.specs.declared.Refusal.{Refusal}
 use Rattle.tbox.specs.declared.Counts.{Counts}
 use Rattle.syntax.specs.Reading.{Reading}
-use Rattle.syntax.specs.Answers.{list_leaves, list_says}
+use Rattle.syntax.specs.Counts.{PartCounts}
+use Rattle.syntax.specs.Answers.{SumKept, list_leaves, list_says}
 
 -- document 01's number and values for each case of an answer: the refusal's number (0 for none), its place, then the values
 abbrev pub count_values : Counts → List ℕ
-count_values n = n.names ∷ n.roles ∷ n.parts ∷ []
+count_values n = n.names ∷ n.fresh ∷ n.existentials ∷ n.universals ∷ n.roles ∷ []
 
 abbrev pub read_numbers : Result Counts Refusal → List ℕ
 read_numbers = numbers_of count_values
+
+-- the counts of parts, and what holds of those that are answered
+abbrev pub part_counts : Counts → PartCounts
+part_counts n = record { names = n.names; fresh = n.fresh; existentials = n.existentials; universals = n.universals }
+
+abbrev pub AnswersSum : Reading → Result Counts Refusal → Type 0
+AnswersSum s (Ok n) = SumKept s (part_counts n)
+AnswersSum s (Err r) = Unit
 
 abbrev pub list_numbers : Result ℕ Refusal → List ℕ
 list_numbers = numbers_of (λ c. c ∷ [])

@@ -3,6 +3,7 @@
 --   Promise            the flattened knowledge base as plain data, for the layers above
 -- What functions tell each other:
 --   Admission          a sheet read into its records and parts, or refused
+--   CountedParts       counting a list of parts
 --   PlainData          parts as plain data
 --   RestrictionPlaces  where each record that is a restriction stands among the parts
 --   TruthWords         on which labels what is gone through holds, 64 at a time
@@ -11,6 +12,7 @@
 pub mod Answers
 pub mod Promise
 pub mod Admission
+pub mod CountedParts
 pub mod PlainData
 pub mod RestrictionPlaces
 pub mod TruthWords

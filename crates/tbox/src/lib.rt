@@ -6,7 +6,8 @@ ghost use Rattle.std.specs.List.{flat_map};
 ghost use Rattle.syntax.specs.Reading.{read_kb};
 ghost use Rattle.syntax.specs.Answers.{limit, read_says};
 ghost use Rattle.flattening.specs.Origins.{slot_bytes};
-ghost use Rattle.tbox.specs.Answers.{read_numbers, Lists};
+ghost use Rattle.tbox.specs.Answers.{read_numbers, AnswersSum, Lists};
+ghost use Rattle.tbox.specs.CountedParts.{CountsParts};
 
 use crate::admission::Admitted;
 use flattening::parts::{Origin, Quantifier};
@@ -20,24 +21,46 @@ pub mod loading;
 mod places;
 mod truth;
 
-// The numbers of names, roles and parts; document 01's T, L and c.
+// How many parts are names, fresh names, existentials and universals, and how many roles there are. T is the first of these, L the
+// last, and c the sum of the four of parts.
 #[derive(Clone, Copy, PartialEq, Eq)]
 pub struct Counts {
     pub names: usize,
+    pub fresh: usize,
+    pub existentials: usize,
+    pub universals: usize,
     pub roles: usize,
-    pub parts: usize,
+}
+
+// Counts a list of parts by kind, beside so many roles.
+fn count_parts(parts: &[Origin], roles: usize) -> Counts
+    ensures { CountsParts parts.now roles result }
+{
+    let mut counts = Counts {
+        names: 0,
+        fresh: 0,
+        existentials: 0,
+        universals: 0,
+        roles,
+    };
+    for &origin in parts {
+        match origin {
+            Origin::Name(_) => counts.names += 1,
+            Origin::Fresh(_) => counts.fresh += 1,
+            Origin::Restriction(Quantifier::Exists, _, _) => counts.existentials += 1,
+            Origin::Restriction(Quantifier::Forall, _, _) => counts.universals += 1,
+        }
+    }
+    counts
 }
 
 pub fn read(sheet: &[u8]) -> Result<Counts, Refusal>
-    ensures { read_numbers result ≡ read_says (read_kb limit sheet.now) }
+    ensures value { read_numbers result ≡ read_says (read_kb limit sheet.now) }
+    ensures sum { AnswersSum (read_kb limit sheet.now) result }
 {
     let mut table = Table::new();
     let admitted = Admitted::read(sheet, &mut table)?;
-    Ok(Counts {
-        names: admitted.names,
-        roles: admitted.roles,
-        parts: admitted.parts.len(),
-    })
+    Ok(count_parts(&admitted.parts, admitted.roles))
 }
 
 // Three bytes for each part: its kind, its number, and whether it is read under an odd number of nots. Answers how many parts.
