@@ -88,8 +88,9 @@ enum lodhrussi_condition {
 };
 
 /*
- * The words that a set takes for a sheet of so many marks and links: one bit for each of the 2^(2c+2L) pairings, and at least one
- * word. A sheet that is read needs at most 262,144. Of other counts, those whose words no size_t can tell give the largest size_t.
+ * The words that a set takes for a sheet of so many marks (the sum of read's *traits, *fresh, *some and *only) and links: one bit
+ * for each of the 2^(2c+2L) pairings, and at least one word. A sheet that is read needs at most 262,144. Of other counts, those
+ * whose words no size_t can tell give the largest size_t.
  */
 static inline size_t lodhrussi_words_needed(uint64_t marks, uint64_t links)
 {
@@ -186,12 +187,14 @@ static inline int lodhrussi_refusal_text(char *text, size_t room, uint64_t refus
 }
 
 /*
- * Read. Answers T, L and c: *traits is one more than the largest trait number in the sheet, or 0; *links the same for links; *marks
- * the number of all marks. Occurrences of one claim (a some or only: the same kind after normal form, links written alike, the same
- * filler in normal form, if that is a trait, everything or nothing) share a mark.
+ * Read. Answers how many marks there are of each kind, after normal form: *traits, *fresh, *some and *only are those that list
+ * marks writes with kind 0, 1, 2 and 3. Their sum is c. The first is T, one more than the largest trait number in the sheet, or 0;
+ * *links is L, the same for links. Occurrences of one claim (a some or only: the same kind after normal form, links written alike,
+ * the same filler in normal form, if that is a trait, everything or nothing) share a mark.
  * Refuses: 1 to 8, 16, 17, then 9.
  */
-uint64_t lodhrussi_read(const uint8_t *sheet, size_t n, uint64_t *place, uint64_t *traits, uint64_t *links, uint64_t *marks);
+uint64_t lodhrussi_read(const uint8_t *sheet, size_t n, uint64_t *place, uint64_t *traits, uint64_t *fresh, uint64_t *some,
+                        uint64_t *only, uint64_t *links);
 
 /*
  * List marks. Writes three bytes for each mark into the list of len bytes: its kind (0 trait, 1 fresh, 2 some, 3 only, after normal

@@ -7,14 +7,27 @@ use std::hint::black_box;
 const BATCHES: usize = 301;
 const CALLS: u32 = 200;
 
-fn by_product(sheet: &[u8]) -> [u64; 3] {
+/// The counts of parts by kind, then of roles.
+fn by_product(sheet: &[u8]) -> [u64; 5] {
     let counts = lodhrussi::read(sheet).expect("the product accepts the sheet");
-    [counts.traits, counts.links, counts.marks]
+    [
+        counts.traits,
+        counts.fresh,
+        counts.some,
+        counts.only,
+        counts.links,
+    ]
 }
 
-fn by_reference(sheet: &[u8]) -> [u64; 3] {
+fn by_reference(sheet: &[u8]) -> [u64; 5] {
     let counts = reference::read(sheet).expect("the reference accepts the sheet");
-    [counts.traits, counts.links, counts.marks]
+    [
+        counts.traits,
+        counts.fresh,
+        counts.some,
+        counts.only,
+        counts.links,
+    ]
 }
 
 fn main() {
@@ -41,7 +54,7 @@ fn measure(name: &str, sheet: &Sheet) {
     println!(
         "{name:<24} {:>5} {:>3} {product:>12.0} {reference:>14.0} {:>7.2}",
         bytes.len(),
-        counts[2],
+        counts[..4].iter().sum::<u64>(),
         product / reference
     );
 }

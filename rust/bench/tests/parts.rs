@@ -7,7 +7,7 @@ use reference::{apart, read, Counts, Refusal};
 
 fn marks(counts: Result<Counts, Refusal>) -> Result<u64, u64> {
     counts
-        .map(|counts| counts.marks)
+        .map(|counts| counts.marks())
         .map_err(|refusal| refusal.number)
 }
 
@@ -19,7 +19,7 @@ fn families() {
             for parts in 1..=12 - roles {
                 let sheet = family.sheet(parts, roles);
                 let counts = read(sheet.bytes()).expect("a sheet without faults");
-                assert_eq!(counts.marks, u64::from(parts), "{}", family.name());
+                assert_eq!(counts.marks(), u64::from(parts), "{}", family.name());
                 assert_eq!(counts.links, u64::from(roles), "{}", family.name());
                 assert_eq!(apart::read(sheet.bytes()), Ok(counts), "{}", family.name());
             }

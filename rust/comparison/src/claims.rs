@@ -1,11 +1,12 @@
 //! Sheets whose restrictions are written alike, or nearly so (document 02, N4).
 
+use crate::counting::{counts, Numbers};
 use crate::hex::from_hex;
 use reference::{Counts, Judgement};
 
-/// What a sheet says, its hex, what is listed for each part, and how many parts
-/// it has with each occurrence apart.
-pub type Listed = (&'static str, &'static str, &'static [[u8; 3]], u64);
+/// What a sheet says, its hex, its numbers of parts and roles, what is listed for
+/// each part, and how many parts it has with each occurrence apart.
+pub type Listed = (&'static str, &'static str, Numbers, &'static [[u8; 3]], u64);
 
 const T0: [u8; 3] = [0, 0, 0];
 const T1: [u8; 3] = [0, 1, 0];
@@ -43,18 +44,21 @@ pub const LISTED: &[Listed] = &[
     (
         "some k0 t0, twice",
         "03 00  10 00  01  07 01 00  20 02 03  07 01 00  20 02 05",
+        [1, 0, 1, 0, 1],
         &[T0, some(3)],
         3,
     ),
     (
         "only k0 t0, twice in one axiom",
         "03 00  10 00  01  08 01 00  08 01 00  05 03 04  20 02 05",
+        [1, 0, 0, 1, 1],
         &[T0, only(3)],
         3,
     ),
     (
         "some k0 t0, then only k0 t0",
         "03 00  10 00  01  07 01 00  20 02 03  08 01 00  20 02 05",
+        [1, 0, 1, 1, 1],
         &[T0, some(3), only(5)],
         3,
     ),
@@ -62,12 +66,14 @@ pub const LISTED: &[Listed] = &[
     (
         "some k0 t0, unused, then twice",
         "03 00  10 00  01  07 01 00  07 01 00  20 02 04  07 01 00  20 02 06",
+        [1, 0, 1, 0, 1],
         &[T0, some(4)],
         3,
     ),
     (
         "some k0 t0, twice, the later record first",
         "03 00  10 00  01  07 01 00  07 01 00  20 02 04  20 02 03",
+        [1, 0, 1, 0, 1],
         &[T0, some(4)],
         3,
     ),
@@ -75,66 +81,77 @@ pub const LISTED: &[Listed] = &[
     (
         "some k0 not not t0, then some k0 t0",
         "03 00  10 00  01  04 00  04 03  07 01 04  20 02 05  07 01 00  20 02 07",
+        [1, 0, 1, 0, 1],
         &[T0, some(5)],
         3,
     ),
     (
         "some k0 t0, then some k0 not not t0",
         "03 00  10 00  01  07 01 00  20 02 03  04 00  04 05  07 01 06  20 02 07",
+        [1, 0, 1, 0, 1],
         &[T0, some(3)],
         3,
     ),
     (
         "some k0 not not not t0, then some k0 t0",
         "03 00  10 00  01  04 00  04 03  04 04  07 01 05  20 02 06  07 01 00  20 02 08",
+        [1, 1, 2, 0, 1],
         &[T0, some(6), fresh(5), some(8)],
         4,
     ),
     (
         "some k0 not t0, then some k0 not not not t0",
         "03 00  10 00  01  04 00  07 01 03  20 02 04  04 00  04 06  04 07  07 01 08  20 02 09",
+        [1, 2, 2, 0, 1],
         &[T0, some(4), fresh(3), some(9), fresh(8)],
         5,
     ),
     (
         "some k0 t0, then some k0 t1",
         "03 00  10 00  01  07 01 00  20 02 03  03 01  07 01 05  20 02 06",
+        [2, 0, 2, 0, 1],
         &[T0, T1, some(3), some(6)],
         4,
     ),
     (
         "some k0 t0, of two records of t0",
         "03 00  10 00  01  07 01 00  20 02 03  03 00  07 01 05  20 02 06",
+        [1, 0, 1, 0, 1],
         &[T0, some(3)],
         3,
     ),
     (
         "some k0 everything, twice",
         "01  10 00  07 01 00  20 00 02  07 01 00  20 00 04",
+        [0, 0, 1, 0, 1],
         &[some(2)],
         2,
     ),
     (
         "only k0 nothing, twice",
         "02  10 00  01  08 01 00  20 02 03  08 01 00  20 02 05",
+        [0, 0, 0, 1, 1],
         &[only(3)],
         2,
     ),
     (
         "some k0 everything, then some k0 nothing",
         "01  10 00  02  07 01 00  20 00 03  07 01 02  20 00 05",
+        [0, 0, 2, 0, 1],
         &[some(3), some(5)],
         2,
     ),
     (
         "some k0 everything, then some k0 not nothing",
         "01  10 00  02  07 01 00  20 00 03  04 02  07 01 05  20 00 06",
+        [0, 0, 1, 0, 1],
         &[some(3)],
         2,
     ),
     (
         "some k0 t0, then some k0 everything",
         "03 00  10 00  01  07 01 00  20 02 03  07 01 02  20 02 05",
+        [1, 0, 2, 0, 1],
         &[T0, some(3), some(5)],
         3,
     ),
@@ -142,48 +159,56 @@ pub const LISTED: &[Listed] = &[
     (
         "some k0 t0, then not only k0 not t0 as a left side",
         "03 00  10 00  01  07 01 00  20 02 03  04 00  08 01 05  20 06 02",
+        [1, 0, 1, 0, 1],
         &[T0, some(3)],
         3,
     ),
     (
         "not only k0 not t0 as a left side, then some k0 t0",
         "03 00  10 00  01  04 00  08 01 03  20 04 02  07 01 00  20 02 06",
+        [1, 0, 1, 0, 1],
         &[T0, some_odd(4)],
         3,
     ),
     (
         "some k0 t0, then not only k0 not t0",
         "03 00  10 00  01  07 01 00  20 02 03  04 00  08 01 05  04 06  20 02 07",
+        [1, 0, 1, 0, 1],
         &[T0, some(3)],
         3,
     ),
     (
         "not only k0 not t0, then some k0 t0",
         "03 00  10 00  01  04 00  08 01 03  04 04  20 02 05  07 01 00  20 02 07",
+        [1, 0, 1, 0, 1],
         &[T0, some_odd(4)],
         3,
     ),
     (
         "only k0 t0, then not some k0 not t0",
         "03 00  10 00  01  08 01 00  20 02 03  04 00  07 01 05  04 06  20 02 07",
+        [1, 0, 0, 1, 1],
         &[T0, only(3)],
         3,
     ),
     (
         "not some k0 not t0, then only k0 t0",
         "03 00  10 00  01  04 00  07 01 03  04 04  20 02 05  08 01 00  20 02 07",
+        [1, 0, 0, 1, 1],
         &[T0, only_odd(4)],
         3,
     ),
     (
         "some k0 everything, then not only k0 nothing",
         "01  10 00  02  07 01 00  20 00 03  08 01 02  04 05  20 00 06",
+        [0, 0, 1, 0, 1],
         &[some(3)],
         2,
     ),
     (
         "some k0 t0 on the left, where it is only k0 not t0, and on the right",
         "03 00  10 00  01  07 01 00  07 01 00  20 03 04",
+        [1, 1, 1, 1, 1],
         &[T0, only_odd(3), fresh_odd(0), some(4)],
         4,
     ),
@@ -191,60 +216,70 @@ pub const LISTED: &[Listed] = &[
     (
         "some k0 t0, of two records of k0",
         "03 00  10 00  01  07 01 00  20 02 03  10 00  07 05 00  20 02 06",
+        [1, 0, 1, 0, 1],
         &[T0, some(3)],
         3,
     ),
     (
         "some k0 t0, then some (k0 inverse) t0",
         "03 00  10 00  01  07 01 00  20 02 03  11 00  07 05 00  20 02 06",
+        [1, 0, 2, 0, 1],
         &[T0, some(3), some(6)],
         3,
     ),
     (
         "some k0 t0, then some k1 t0",
         "03 00  10 00  01  07 01 00  20 02 03  10 01  07 05 00  20 02 06",
+        [1, 0, 2, 0, 2],
         &[T0, some(3), some(6)],
         3,
     ),
     (
         "some (k0 and k1) t0, twice",
         "03 00  10 00  10 01  01  13 01 02  07 04 00  20 03 05  13 01 02  07 07 00  20 03 08",
+        [1, 0, 1, 0, 2],
         &[T0, some(5)],
         3,
     ),
     (
         "some (k0 and k1) t0, then some (k1 and k0) t0",
         "03 00  10 00  10 01  01  13 01 02  07 04 00  20 03 05  13 02 01  07 07 00  20 03 08",
+        [1, 0, 2, 0, 2],
         &[T0, some(5), some(8)],
         3,
     ),
     (
         "some (k0 or k1) t0, then some (k0 and k1) t0",
         "03 00  10 00  10 01  01  14 01 02  07 04 00  20 03 05  13 01 02  07 07 00  20 03 08",
+        [1, 0, 2, 0, 2],
         &[T0, some(5), some(8)],
         3,
     ),
     (
         "some (k0 or k1) t0, then some (k1 or k0) t0",
         "03 00  10 00  10 01  01  14 01 02  07 04 00  20 03 05  14 02 01  07 07 00  20 03 08",
+        [1, 0, 2, 0, 2],
         &[T0, some(5), some(8)],
         3,
     ),
     (
         "some k0 t0, then some (k0 and k0) t0",
         "03 00  10 00  01  07 01 00  20 02 03  13 01 01  07 05 00  20 02 06",
+        [1, 0, 2, 0, 1],
         &[T0, some(3), some(6)],
         3,
     ),
     (
         "some k0 t0, then some (not not k0) t0",
         "03 00  10 00  01  07 01 00  20 02 03  12 01  12 05  07 06 00  20 02 07",
+        [1, 0, 2, 0, 1],
         &[T0, some(3), some(7)],
         3,
     ),
     (
         "some (not not k0) t0, twice",
         "03 00  10 00  01  12 01  12 03  07 04 00  20 02 05  12 01  12 07  07 08 00  20 02 09",
+        [1, 0, 1, 0, 1],
         &[T0, some(5)],
         3,
     ),
@@ -252,6 +287,7 @@ pub const LISTED: &[Listed] = &[
         "some (k1 and not (k0 inverse or k1)) t0, twice, of other records of k0 and k1",
         "03 00  11 00  10 01  01  14 01 02  12 04  13 02 05  07 06 00  20 03 07 \
          11 00  10 01  14 09 0A  12 0B  10 01  13 0D 0C  07 0E 00  20 03 0F",
+        [1, 0, 1, 0, 2],
         &[T0, some(7)],
         3,
     ),
@@ -259,6 +295,7 @@ pub const LISTED: &[Listed] = &[
         "some (k1 and not (k0 inverse or k1)) t0, then with k0 in place of its inverse",
         "03 00  11 00  10 01  01  14 01 02  12 04  13 02 05  07 06 00  20 03 07 \
          10 00  14 09 02  12 0A  13 02 0B  07 0C 00  20 03 0D",
+        [1, 0, 2, 0, 2],
         &[T0, some(7), some(13)],
         3,
     ),
@@ -266,12 +303,14 @@ pub const LISTED: &[Listed] = &[
     (
         "some k0 not t0, twice",
         "03 00  10 00  01  04 00  07 01 03  20 02 04  04 00  07 01 06  20 02 07",
+        [1, 2, 2, 0, 1],
         &[T0, some(4), fresh(3), some(7), fresh(6)],
         5,
     ),
     (
         "only k0 (t0 and t0), twice",
         "03 00  10 00  01  05 00 00  08 01 03  20 02 04  05 00 00  08 01 06  20 02 07",
+        [1, 2, 0, 2, 1],
         &[T0, only(4), fresh(3), only(7), fresh(6)],
         5,
     ),
@@ -279,18 +318,21 @@ pub const LISTED: &[Listed] = &[
         "some k0 some k0 t0, twice, then some k0 t0, which is met before those inside",
         "03 00  10 00  01  07 01 00  07 01 03  20 02 04  07 01 00  07 01 06  20 02 07 \
          07 01 00  20 02 09",
+        [1, 2, 3, 0, 1],
         &[T0, some(4), fresh(3), some(7), fresh(6), some(9)],
         8,
     ),
     (
         "some k0 some k0 t0, twice",
         "03 00  10 00  01  07 01 00  07 01 03  20 02 04  07 01 00  07 01 06  20 02 07",
+        [1, 2, 3, 0, 1],
         &[T0, some(4), fresh(3), some(7), fresh(6), some(3)],
         7,
     ),
     (
         "only k0 not some k0 not t0, which is only k0 only k0 t0, then only k0 t0",
         "03 00  10 00  01  04 00  07 01 03  04 04  08 01 05  20 02 06  08 01 00  20 02 08",
+        [1, 1, 0, 2, 1],
         &[T0, only(6), fresh(5), only(8)],
         5,
     ),
@@ -298,6 +340,7 @@ pub const LISTED: &[Listed] = &[
         "a filler that waits: every some k0 some k0 everything is only k0 some k0 everything, \
          and everything is some k0 everything",
         "01  10 00  07 01 00  08 01 02  07 01 00  07 01 04  07 01 00  20 05 03  20 00 06",
+        [0, 2, 1, 3, 1],
         &[
             only_odd(5),
             fresh_odd(4),
@@ -352,7 +395,7 @@ pub fn judged() -> Vec<Judged> {
     let s1 = |what, times: u8| Judged {
         what,
         sheet: said(times),
-        counts: counts(1, 1, 2),
+        counts: counts([1, 0, 1, 0, 1]),
         judgement: judgement(32, 16),
         apart: 1 + u64::from(times),
     };
@@ -368,26 +411,18 @@ pub fn judged() -> Vec<Judged> {
         Judged {
             what: "six names",
             sheet: six_names,
-            counts: counts(6, 1, 7),
+            counts: counts([6, 0, 1, 0, 1]),
             judgement: judgement(33_152, 16_772),
             apart: 12,
         },
         Judged {
             what: "six names, unmet",
             sheet: unmet,
-            counts: counts(6, 1, 7),
+            counts: counts([6, 0, 1, 0, 1]),
             judgement: judgement(8_192, 0),
             apart: 12,
         },
     ]
-}
-
-fn counts(traits: u64, links: u64, marks: u64) -> Counts {
-    Counts {
-        traits,
-        links,
-        marks,
-    }
 }
 
 fn judgement(opening: u64, survivors: u64) -> Judgement {

@@ -156,7 +156,7 @@ impl Tally {
     /// Counts a sheet that is accepted.
     pub(crate) fn count_accepted(&mut self, sheet: &[u8], counts: Counts) {
         self.sheets += 1;
-        self.sizes[(counts.marks + counts.links) as usize] += 1;
+        self.sizes[(counts.marks() + counts.links) as usize] += 1;
         self.sharing.count(sheet, counts);
         self.inclusions.count(sheet);
     }
@@ -168,7 +168,7 @@ impl Tally {
             Ok(counts) => {
                 self.count_accepted(sheet, counts);
                 let shape = Shape {
-                    parts: counts.marks as usize,
+                    parts: counts.marks() as usize,
                     roles: counts.links as usize,
                 };
                 self.compare_short(engine, sheet, shape.words(), random);

@@ -10,7 +10,7 @@ use reference::{Counts, Judgement};
 
 /// A sheet whose parts and roles come to exactly `size`, which is not 0.
 pub fn sheet(size: usize, random: &mut Random) -> Vec<u8> {
-    let fits = |counts: Counts| counts.marks + counts.links == size as u64;
+    let fits = |counts: Counts| counts.marks() + counts.links == size as u64;
     loop {
         let bytes = Writer::new(size, random).axioms();
         if reference::read(&bytes).is_ok_and(fits) {
@@ -37,7 +37,7 @@ pub fn unmet_sheet(size: usize, random: &mut Random) -> Vec<u8> {
 fn judged(sheet: &[u8]) -> Judgement {
     let counts = reference::read(sheet).expect("a sheet without faults");
     let shape = Shape {
-        parts: counts.marks as usize,
+        parts: counts.marks() as usize,
         roles: counts.links as usize,
     };
     let mut set = vec![0; shape.words()];

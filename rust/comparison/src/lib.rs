@@ -3,6 +3,7 @@
 
 pub mod claims;
 pub mod copies;
+pub mod counting;
 pub mod damage;
 pub mod dominoes;
 pub mod few_axioms;

@@ -325,7 +325,7 @@ pub fn small_sheet(most: usize, random: &mut Random) -> Vec<u8> {
         if random.one_in(2) {
             narrow(&mut sheet, random);
         }
-        let fits = |counts: reference::Counts| counts.marks + counts.links <= most as u64;
+        let fits = |counts: reference::Counts| counts.marks() + counts.links <= most as u64;
         if reference::read(&sheet.bytes).is_ok_and(fits) {
             return sheet.bytes;
         }

@@ -1,5 +1,6 @@
 //! An engine against the reference: the calls about a sheet alone.
 
+use crate::counting::{self, by_kind};
 use crate::dominoes::list;
 use crate::hex::Hex;
 use crate::inclusions;
@@ -13,12 +14,19 @@ use std::fmt;
 /// Bytes on either side of a list, which no call may change.
 const MARGIN: usize = 8;
 
+/// No part has a first byte like this.
+const NO_KIND: u8 = 0xFF;
+
+/// One more than the most parts that a sheet may have.
+const ROOM: usize = 13;
+
 /// How many results were compared, and of which sort.
 #[derive(Default)]
 pub struct Tally {
     pub sheets: u64,
     pub comparisons: u64,
     pub accepted: u64,
+    pub counts: counting::Tally,
     pub sharing: Sharing,
     pub inclusions: inclusions::Tally,
     /// By the number of the refusal.
@@ -38,9 +46,11 @@ impl Tally {
         let marks = match self.compare_read(engine, sheet) {
             Ok(counts) => {
                 self.accepted += 1;
+                self.compare_kinds(engine, sheet, counts);
+                self.counts.count(counts);
                 self.sharing.count(sheet, counts);
                 self.inclusions.count(sheet);
-                counts.marks as usize
+                counts.marks() as usize
             }
             Err(refusal) => {
                 self.refused[refusal.number as usize] += 1;
@@ -64,6 +74,23 @@ impl Tally {
         assert_eq!(engine.read(sheet), expected, "read of {}", Hex(sheet));
         self.comparisons += 1;
         expected
+    }
+
+    /// A list with room has as many parts of each kind as were counted, and no
+    /// others.
+    fn compare_kinds(&mut self, engine: &impl Reading, sheet: &[u8], counts: Counts) {
+        let what = Hex(sheet);
+        let mut list = [[NO_KIND; 3]; ROOM];
+        let answer = engine.list_marks(sheet, list.as_flattened_mut());
+        assert_eq!(answer, Ok(()), "list of {what}");
+        let kinds = || list.iter().map(|part| part[0]);
+        let listed = kinds().take_while(|&kind| kind != NO_KIND).count() as u64;
+        assert_eq!(listed, counts.marks(), "parts of {what}");
+        for (number, count) in (0..).zip(by_kind(counts)) {
+            let of_kind = kinds().filter(|&kind| kind == number).count() as u64;
+            assert_eq!(of_kind, count, "parts of kind {number} of {what}");
+        }
+        self.comparisons += 1;
     }
 
     fn compare_list(
@@ -102,6 +129,7 @@ impl fmt::Display for Tally {
         )?;
         list(f, "; refusals", &self.refused)?;
         self.misreferences.fmt(f)?;
+        self.counts.fmt(f)?;
         self.sharing.fmt(f)?;
         self.inclusions.fmt(f)
     }

@@ -17,13 +17,15 @@ impl Sharing {
     ///
     /// # Panics
     ///
-    /// If it has more parts than with each occurrence apart, or another fault.
+    /// If it has more restrictions than with each occurrence apart, other names or
+    /// roles, or another fault.
     pub fn count(&mut self, sheet: &[u8], counts: Counts) {
         match apart::read(sheet) {
             Ok(apart) => {
-                assert!(counts.marks <= apart.marks);
-                assert_eq!((counts.traits, counts.links), (apart.traits, apart.links));
-                self.shared += u64::from(counts.marks < apart.marks);
+                assert!(counts.some <= apart.some && counts.only <= apart.only);
+                let others = |counts: Counts| (counts.traits, counts.fresh, counts.links);
+                assert_eq!(others(counts), others(apart));
+                self.shared += u64::from(counts.marks() < apart.marks());
             }
             Err(refusal) => {
                 assert_eq!(refusal.number, 9);

@@ -1,5 +1,6 @@
 //! The comparisons of one engine with the reference, by seed.
 
+use crate::counting::{counts, COUNTED};
 use crate::dominoes::{Answer, Call, Tally};
 use crate::hex::Hex;
 use crate::random::Random;
@@ -29,11 +30,25 @@ pub fn report(name: &str, tally: &impl fmt::Display) {
     writeln!(io::stdout(), "{name}: {tally}").expect("standard output takes the report");
 }
 
-/// Document 01's sheets and their beginnings.
+/// The counts of fixed sheets, without the reference.
+///
+/// # Panics
+///
+/// Where the engine answers otherwise.
+pub fn worked_counts(engine: &impl Reading) {
+    let judged = worked::JUDGED.map(|(hex, numbers, ..)| (hex, numbers));
+    for (hex, numbers) in judged.into_iter().chain(COUNTED) {
+        let counted = engine.read(&worked::from_hex(hex));
+        assert_eq!(counted, Ok(counts(numbers)), "{hex}");
+    }
+}
+
+/// Document 01's sheets, those with fixed counts, and their beginnings.
 pub fn worked_reading(engine: &impl Reading) -> reading::Tally {
     let mut random = Random::seeded(1);
     let mut tally = reading::Tally::default();
-    for sheet in worked::all() {
+    let counted = COUNTED.map(|(hex, _)| worked::from_hex(hex));
+    for sheet in worked::all().chain(counted) {
         for end in 0..=sheet.len() {
             tally.compare(engine, &sheet[..end], &mut random);
         }
@@ -61,7 +76,8 @@ pub fn made_up_reading(engine: &impl Reading) -> reading::Tally {
 ///
 /// # Panics
 ///
-/// Where engine and reference differ, or parts are seldom shared.
+/// Where engine and reference differ, parts are seldom shared, or a sort of counts
+/// is rare.
 pub fn repeating_reading(engine: &impl Reading) -> reading::Tally {
     let mut random = Random::seeded(9);
     let mut tally = reading::Tally::default();
@@ -71,6 +87,11 @@ pub fn repeating_reading(engine: &impl Reading) -> reading::Tally {
     }
     assert!(tally.sharing.shared >= 20_000, "{tally}");
     assert!(tally.sharing.refused_apart >= 5_000, "{tally}");
+    let counts = tally.counts;
+    assert!(counts.with.iter().all(|&with| with >= 6_000), "{tally}");
+    assert!(counts.with_each >= 3_800, "{tally}");
+    assert!(counts.all_differ >= 1_800, "{tally}");
+    assert!(counts.some_not_only >= 11_000, "{tally}");
     tally
 }
 
@@ -198,10 +219,9 @@ fn worked_strike(engine: &impl Judging, sheet: &[u8], before: Before, strike: St
 ///
 /// Where the engine answers otherwise.
 pub fn listed_claims(engine: &impl Reading) {
-    for &(what, hex, marks, _) in claims::LISTED {
+    for &(what, hex, numbers, marks, _) in claims::LISTED {
         let sheet = worked::from_hex(hex);
-        let counted = engine.read(&sheet).map(|counts| counts.marks);
-        assert_eq!(counted, Ok(marks.len() as u64), "{what}");
+        assert_eq!(engine.read(&sheet), Ok(counts(numbers)), "{what}");
         let marks = marks.as_flattened();
         let mut list = vec![9; marks.len() + 4];
         assert_eq!(engine.list_marks(&sheet, &mut list), Ok(()), "{what}");
@@ -225,7 +245,7 @@ pub fn listed_claims(engine: &impl Reading) {
 pub fn judged_claims(engine: &impl Judging) {
     for row in claims::judged() {
         let (sheet, what) = (&row.sheet, row.what);
-        let size = row.counts.marks + row.counts.links;
+        let size = row.counts.marks() + row.counts.links;
         let dominoes = 4_u64.pow(size as u32);
         let mut set = vec![7; dominoes.div_ceil(64) as usize];
         let mut short = vec![7; set.len() - 1];
@@ -324,7 +344,7 @@ fn compare_unless_large(
     sheet: &[u8],
     random: &mut Random,
 ) {
-    if !reference::read(sheet).is_ok_and(|counts| counts.marks + counts.links > 5) {
+    if !reference::read(sheet).is_ok_and(|counts| counts.marks() + counts.links > 5) {
         tally.compare(engine, sheet, random);
     }
 }

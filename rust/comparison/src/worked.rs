@@ -3,10 +3,11 @@
 
 pub use crate::hex::from_hex;
 
+use crate::counting::Numbers;
 use reference::Verdict;
 
-/// A sheet that is judged: hex, parts, opening, survivors, met.
-pub type Judged = (&'static str, u64, u64, u64, bool);
+/// A sheet that is judged: hex, numbers of parts and roles, opening, survivors, met.
+pub type Judged = (&'static str, Numbers, u64, u64, bool);
 
 pub const S1: &str = "01 10 00 03 00 07 01 02 20 00 03";
 pub const S3: &str = "01 10 00 03 00 07 01 02 20 00 03 11 00 02 08 05 06 20 02 07";
@@ -23,33 +24,33 @@ pub const N8: &str = "01 10 00 10 01 02 07 01 00 20 00 04 08 02 03 20 00 06 21 0
 /// with role inclusions: role 0 in not role 1; the inverse of role 0 in role 0;
 /// role 0 and not its inverse in role 1.
 pub const JUDGED: [Judged; 13] = [
-    ("", 0, 1, 1, true),
-    (S1, 2, 32, 16, true),
+    ("", [0, 0, 0, 0, 0], 1, 1, true),
+    (S1, [1, 0, 1, 0, 1], 32, 16, true),
     (
         "01 10 00 03 00 07 01 02 20 00 03 02 20 02 05",
-        2,
+        [1, 0, 1, 0, 1],
         16,
         0,
         false,
     ),
-    (S3, 3, 64, 0, false),
-    (S4, 1, 8, 0, false),
-    (S5, 2, 48, 16, true),
-    (S6, 3, 144, 85, true),
-    ("03 00", 1, 4, 4, true),
-    (N8_MET, 2, 32, 4, true),
-    (N8, 2, 16, 0, false),
-    ("10 00 10 01 12 01 21 00 02", 0, 12, 9, true),
+    (S3, [1, 0, 1, 1, 1], 64, 0, false),
+    (S4, [0, 0, 1, 0, 1], 8, 0, false),
+    (S5, [1, 0, 0, 1, 1], 48, 16, true),
+    (S6, [1, 1, 1, 0, 1], 144, 85, true),
+    ("03 00", [1, 0, 0, 0, 0], 4, 4, true),
+    (N8_MET, [0, 0, 1, 1, 2], 32, 4, true),
+    (N8, [0, 0, 1, 1, 2], 16, 0, false),
+    ("10 00 10 01 12 01 21 00 02", [0, 0, 0, 0, 2], 12, 9, true),
     (
         "01 11 00 10 00 21 01 02 03 00 07 01 04 20 00 05",
-        2,
+        [1, 0, 1, 0, 1],
         24,
         8,
         true,
     ),
     (
         "10 00 10 01 11 00 12 02 13 00 03 21 04 01 03 00 01 07 01 06 20 07 08",
-        2,
+        [1, 0, 1, 0, 2],
         112,
         48,
         true,

@@ -28,10 +28,10 @@ fn main() -> ExitCode {
 fn print(sheet: &[u8]) -> Result<(), lodhrussi::Refusal> {
     let counts = lodhrussi::read(sheet)?;
     println!(
-        "traits {} links {} marks {}",
-        counts.traits, counts.links, counts.marks
+        "traits {} fresh {} some {} only {} links {}",
+        counts.traits, counts.fresh, counts.some, counts.only, counts.links
     );
-    let mut list = vec![0; 3 * counts.marks as usize];
+    let mut list = vec![0; 3 * counts.marks() as usize];
     lodhrussi::list_marks(sheet, &mut list)?;
     for (number, part) in list.chunks_exact(3).enumerate() {
         let source = if part[0] == 0 { "trait" } else { "record" };

@@ -56,13 +56,16 @@ pub struct Judgement {
 /// has so many.
 ///
 /// ```
-/// let counts = lodhrussi::Counts { traits: 8, links: 1, marks: 8 };
+/// let counts = lodhrussi::Counts { traits: 3, fresh: 1, some: 2, only: 2, links: 1 };
 /// assert_eq!(lodhrussi::words_needed(counts), 4096);
 /// ```
 #[must_use]
 pub fn words_needed(counts: Counts) -> usize {
     // 64 dominoes to a word, and 64 is 4³
-    let exponent = counts.marks.saturating_add(counts.links).saturating_sub(3);
+    let exponent = counts
+        .marks()
+        .saturating_add(counts.links)
+        .saturating_sub(3);
     u32::try_from(exponent).map_or(usize::MAX, |exponent| 4_usize.saturating_pow(exponent))
 }
 

@@ -8,8 +8,10 @@ extern "C" {
         n: usize,
         place: *mut u64,
         traits: *mut u64,
+        fresh: *mut u64,
+        some: *mut u64,
+        only: *mut u64,
         links: *mut u64,
-        marks: *mut u64,
     ) -> u64;
 
     pub fn lodhrussi_list_marks(

@@ -18,7 +18,7 @@
 //! let sheet = [1, 0x10, 0, 3, 0, 7, 1, 2, 0x20, 0, 3];
 //!
 //! let counts = lodhrussi::read(&sheet)?;
-//! assert_eq!((counts.traits, counts.links, counts.marks), (1, 1, 2));
+//! assert_eq!((counts.traits, counts.links, counts.marks()), (1, 1, 2));
 //!
 //! let mut list = [0; 6];
 //! lodhrussi::list_marks(&sheet, &mut list)?;
@@ -45,22 +45,40 @@ mod refusal;
 
 pub mod records;
 
+#[cfg(test)]
+mod tests;
+
 pub use call::Call;
 pub use condition::Condition;
 pub use dominoes::{judge, open, settle, strike, words_needed, Judgement, Strike, Verdict};
 pub use owl::{export, exported, import, imported};
 pub use refusal::Refusal;
 
-/// What a sheet holds.
+/// What a sheet holds: the parts of its flattened knowledge base, counted by
+/// kind as [`list_marks`] lists them, and its roles.
 #[derive(Clone, Copy, Debug, Default, PartialEq, Eq, Hash)]
 pub struct Counts {
-    /// One more than the largest number of a concept name, or 0.
+    /// Concept names: one more than the largest number of one, or 0.
     pub traits: u64,
+    /// Fresh names, of fillers.
+    pub fresh: u64,
+    /// Existential restrictions, in negation normal form.
+    pub some: u64,
+    /// Universal restrictions, in negation normal form.
+    pub only: u64,
     /// One more than the largest number of a role, or 0.
     pub links: u64,
-    /// The parts of the flattened knowledge base, as [`list_marks`] lists them.
-    /// Parts and roles come to at most 12.
-    pub marks: u64,
+}
+
+impl Counts {
+    /// How many parts there are in all: the sum of the counts by kind. Of a
+    /// sheet that is read, parts and roles come to at most 12; of other counts
+    /// the sum stops at the largest number.
+    #[must_use]
+    pub fn marks(&self) -> u64 {
+        let kinds = [self.fresh, self.some, self.only];
+        kinds.into_iter().fold(self.traits, u64::saturating_add)
+    }
 }
 
 /// Checks a sheet and counts its concept names, roles and parts.
@@ -77,15 +95,17 @@ pub fn read(sheet: &[u8]) -> Result<Counts, Refusal> {
     let mut place = 0;
     let mut counts = Counts::default();
     // SAFETY: the pointer and length are those of `sheet`, which is only read;
-    // the other pointers are to four separate numbers of ours.
+    // the other pointers are to six separate numbers of ours.
     let number = unsafe {
         ffi::lodhrussi_read(
             sheet.as_ptr(),
             sheet.len(),
             &raw mut place,
             &raw mut counts.traits,
+            &raw mut counts.fresh,
+            &raw mut counts.some,
+            &raw mut counts.only,
             &raw mut counts.links,
-            &raw mut counts.marks,
         )
     };
     Refusal::check(Call::Read, number, place)?;

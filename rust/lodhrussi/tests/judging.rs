@@ -4,6 +4,7 @@ mod product;
 
 use comparison::suites::{self, report};
 use comparison::{inclusions, misreference};
+use lodhrussi::Counts;
 use product::Product;
 
 #[test]
@@ -53,6 +54,25 @@ fn lists_of_calls() {
     report("strikes and settlings in a row", &tally);
 }
 
+/// Counts with so many marks, of one kind or of two.
+fn with_marks(marks: u64, links: u64) -> [Counts; 5] {
+    let half = marks / 2;
+    let kinds = [
+        [marks, 0, 0, 0],
+        [0, marks, 0, 0],
+        [0, 0, marks, 0],
+        [0, 0, 0, marks],
+        [0, half, 0, marks - half],
+    ];
+    kinds.map(|[traits, fresh, some, only]| Counts {
+        traits,
+        fresh,
+        some,
+        only,
+        links,
+    })
+}
+
 #[test]
 fn words_needed() {
     let of_sheets = [
@@ -72,11 +92,8 @@ fn words_needed() {
     ];
     let too_large = too_large.map(|(marks, links)| (marks, links, usize::MAX));
     for (marks, links, words) in of_sheets.into_iter().chain(large).chain(too_large) {
-        let counts = lodhrussi::Counts {
-            traits: 0,
-            links,
-            marks,
-        };
-        assert_eq!(lodhrussi::words_needed(counts), words, "{counts:?}");
+        for counts in with_marks(marks, links) {
+            assert_eq!(lodhrussi::words_needed(counts), words, "{counts:?}");
+        }
     }
 }

@@ -14,6 +14,7 @@ const MADE_UP: u64 = 30_000;
 
 #[test]
 fn worked_sheets() {
+    suites::worked_counts(&Product);
     let tally = suites::worked_reading(&Product);
     report("reading, worked sheets", &tally);
 }

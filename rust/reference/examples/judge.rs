@@ -22,10 +22,12 @@ fn lines(sheet: &[u8]) -> Result<String, Refusal> {
     let counts = read(sheet)?;
     let judgement = judge(sheet, &mut vec![0; WORDS])?;
     Ok(format!(
-        "traits {} links {} marks {}\nopening {} survivors {}\n{}",
+        "traits {} fresh {} some {} only {} links {}\nopening {} survivors {}\n{}",
         counts.traits,
+        counts.fresh,
+        counts.some,
+        counts.only,
         counts.links,
-        counts.marks,
         judgement.opening,
         judgement.survivors,
         if judgement.met {

@@ -3,6 +3,7 @@
 use crate::fault::{Fault, Refusal};
 use crate::kb::{Kb, Record};
 use crate::sharing::Sharing;
+use crate::Counts;
 
 /// The most that parts and roles may come to together.
 const MAX_PARTS_AND_ROLES: usize = 12;
@@ -81,6 +82,24 @@ impl Parts {
 
     pub(crate) fn as_slice(&self) -> &[Part] {
         &self.list[..self.len]
+    }
+
+    /// How many there are of each kind, beside so many roles.
+    pub(crate) fn counts_beside(&self, roles: u8) -> Counts {
+        let mut counts = Counts {
+            links: u64::from(roles),
+            ..Counts::default()
+        };
+        for part in self.as_slice() {
+            let count = match part.kind {
+                Kind::Name => &mut counts.traits,
+                Kind::Fresh => &mut counts.fresh,
+                Kind::Exists => &mut counts.some,
+                Kind::Forall => &mut counts.only,
+            };
+            *count += 1;
+        }
+        counts
     }
 
     fn push(&mut self, part: Part) -> Result<(), Fault> {

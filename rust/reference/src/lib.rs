@@ -38,15 +38,28 @@ use flatten::{flatten, PART_BYTES};
 use kb::Kb;
 use sharing::Sharing;
 
-/// What a sheet holds.
-#[derive(Clone, Copy, Debug, PartialEq, Eq)]
+/// What a sheet holds: the parts of its flattened knowledge base (document 01:
+/// marks), counted by kind (document 02, N9), and its roles.
+#[derive(Clone, Copy, Debug, Default, PartialEq, Eq)]
 pub struct Counts {
-    /// One more than the largest number of a concept name, or 0 (document 01: traits).
+    /// Concept names: one more than the largest number of one, or 0 (document 01: traits).
     pub traits: u64,
+    /// Fresh names.
+    pub fresh: u64,
+    /// Existential restrictions, in negation normal form.
+    pub some: u64,
+    /// Universal restrictions, in negation normal form.
+    pub only: u64,
     /// One more than the largest number of a role, or 0 (document 01: links).
     pub links: u64,
-    /// The parts of the flattened knowledge base (document 01: marks).
-    pub marks: u64,
+}
+
+impl Counts {
+    /// The parts of all kinds.
+    #[must_use]
+    pub fn marks(&self) -> u64 {
+        self.traits + self.fresh + self.some + self.only
+    }
 }
 
 /// Checks a sheet and counts its concept names, roles and parts.
@@ -62,11 +75,7 @@ fn read_by(sheet: &[u8], sharing: Sharing) -> Result<Counts, Refusal> {
     let mut kb = Kb::empty();
     kb.read(sheet)?;
     let parts = flatten(&kb, sharing)?;
-    Ok(Counts {
-        traits: u64::from(kb.names()),
-        links: u64::from(kb.roles()),
-        marks: parts.as_slice().len() as u64,
-    })
+    Ok(parts.counts_beside(kb.roles()))
 }
 
 /// Writes three bytes for each part and answers the number of parts.

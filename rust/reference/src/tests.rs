@@ -11,15 +11,17 @@ fn s1_then(more: &[u8]) -> Vec<u8> {
 }
 
 #[track_caller]
-fn assert_counts(sheet: &[u8], traits: u64, links: u64, marks: u64) {
+fn assert_counts(sheet: &[u8], [traits, fresh, some, only, links]: [u64; 5]) {
     let counts = Counts {
         traits,
+        fresh,
+        some,
+        only,
         links,
-        marks,
     };
     assert_eq!(read(sheet), Ok(counts));
-    let mut list = vec![0; 3 * marks as usize];
-    assert_eq!(list_marks(sheet, &mut list), Ok(marks as usize));
+    let marks = counts.marks() as usize;
+    assert_eq!(list_marks(sheet, &mut vec![0; 3 * marks]), Ok(marks));
 }
 
 #[track_caller]
@@ -42,19 +44,19 @@ fn assert_marks(sheet: &[u8], marks: &[[u8; 3]]) {
 
 #[test]
 fn worked_sheets_are_read() {
-    assert_counts(&[], 0, 0, 0);
-    assert_counts(S1, 1, 1, 2);
-    assert_counts(&s1_then(&[0x02, 0x20, 0x02, 0x05]), 1, 1, 2);
+    assert_counts(&[], [0, 0, 0, 0, 0]);
+    assert_counts(S1, [1, 0, 1, 0, 1]);
+    assert_counts(&s1_then(&[0x02, 0x20, 0x02, 0x05]), [1, 0, 1, 0, 1]);
     let s3 = s1_then(&[0x11, 0x00, 0x02, 0x08, 0x05, 0x06, 0x20, 0x02, 0x07]);
-    assert_counts(&s3, 1, 1, 3);
+    assert_counts(&s3, [1, 0, 1, 1, 1]);
     let s4 = [0x10, 0x00, 0x01, 0x08, 0x00, 0x01, 0x02, 0x20, 0x02, 0x03];
-    assert_counts(&s4, 0, 1, 1);
+    assert_counts(&s4, [0, 0, 1, 0, 1]);
     let s5 = [
         0x01, 0x03, 0x00, 0x10, 0x00, 0x08, 0x02, 0x00, 0x06, 0x01, 0x03, 0x20, 0x00, 0x04,
     ];
-    assert_counts(&s5, 1, 1, 2);
-    assert_counts(&[0x03, 0x00], 1, 0, 1);
-    assert_counts(&[0x03, 0x0B], 12, 0, 12);
+    assert_counts(&s5, [1, 0, 0, 1, 1]);
+    assert_counts(&[0x03, 0x00], [1, 0, 0, 0, 0]);
+    assert_counts(&[0x03, 0x0B], [12, 0, 0, 0, 0]);
 }
 
 #[test]
@@ -71,7 +73,7 @@ fn the_marks_of_s6_are_listed() {
     let s6 = [
         0x03, 0x00, 0x10, 0x00, 0x04, 0x00, 0x07, 0x01, 0x02, 0x20, 0x00, 0x03,
     ];
-    assert_counts(&s6, 1, 1, 3);
+    assert_counts(&s6, [1, 1, 1, 0, 1]);
     assert_marks(&s6, &[[0, 0, 0], [2, 3, 0], [1, 2, 0]]);
 }
 
@@ -105,7 +107,7 @@ fn kinds_and_bodies() {
 #[test]
 fn the_256th_record_is_refused_before_its_kind() {
     let full = [0x01; 255];
-    assert_counts(&full, 0, 0, 0);
+    assert_counts(&full, [0, 0, 0, 0, 0]);
     for next in [0x01, 0x03, 0xFF] {
         assert_refused(&[&full[..], &[next]].concat(), 3, 255);
     }
@@ -147,14 +149,17 @@ fn a_record_of_the_wrong_sort() {
 fn a_role_that_holds_on_the_empty_set() {
     let not_role = [0x01, 0x10, 0x00, 0x12, 0x01];
     // By itself no fault; the filler's faults come first.
-    assert_counts(&not_role, 0, 1, 0);
+    assert_counts(&not_role, [0, 0, 0, 0, 1]);
     let then = |more: &[u8]| [&not_role[..], more].concat();
     assert_refused(&then(&[0x08, 0x02, 0x03]), 5, 7);
     assert_refused(&then(&[0x08, 0x02, 0x01]), 6, 7);
     assert_refused(&then(&[0x08, 0x02, 0x00]), 8, 5);
     assert_refused(&then(&[0x14, 0x02, 0x01, 0x07, 0x03, 0x00]), 8, 8);
-    assert_counts(&then(&[0x13, 0x02, 0x01, 0x07, 0x03, 0x00]), 0, 1, 0);
-    assert_counts(&then(&[0x12, 0x02, 0x07, 0x03, 0x00]), 0, 1, 0);
+    assert_counts(
+        &then(&[0x13, 0x02, 0x01, 0x07, 0x03, 0x00]),
+        [0, 0, 0, 0, 1],
+    );
+    assert_counts(&then(&[0x12, 0x02, 0x07, 0x03, 0x00]), [0, 0, 0, 0, 1]);
 }
 
 #[test]
@@ -162,16 +167,19 @@ fn role_inclusions() {
     let not_role = [0x01, 0x10, 0x00, 0x12, 0x01];
     let then = |more: &[u8]| [&not_role[..], more].concat();
     // The second role may hold on the empty set; the references' faults come first.
-    assert_counts(&then(&[0x21, 0x01, 0x01]), 0, 1, 0);
-    assert_counts(&then(&[0x21, 0x01, 0x02]), 0, 1, 0);
-    assert_counts(&then(&[0x11, 0x03, 0x21, 0x03, 0x02]), 0, 4, 0);
+    assert_counts(&then(&[0x21, 0x01, 0x01]), [0, 0, 0, 0, 1]);
+    assert_counts(&then(&[0x21, 0x01, 0x02]), [0, 0, 0, 0, 1]);
+    assert_counts(&then(&[0x11, 0x03, 0x21, 0x03, 0x02]), [0, 0, 0, 0, 4]);
     assert_refused(&then(&[0x21, 0x02, 0x01]), 8, 5);
     assert_refused(&then(&[0x21, 0x02, 0x03]), 5, 7);
     assert_refused(&then(&[0x21, 0x02, 0x00]), 16, 7);
     assert_refused(&then(&[0x21, 0x02, 0x02]), 7, 7);
     assert_refused(&then(&[0x21, 0x00, 0x02]), 16, 6);
     assert_refused(&then(&[0x14, 0x02, 0x01, 0x21, 0x03, 0x01]), 8, 8);
-    assert_counts(&then(&[0x13, 0x02, 0x01, 0x21, 0x03, 0x01]), 0, 1, 0);
+    assert_counts(
+        &then(&[0x13, 0x02, 0x01, 0x21, 0x03, 0x01]),
+        [0, 0, 0, 0, 1],
+    );
     // It names its roles, and is never named.
     assert_refused(&then(&[0x21, 0x01, 0x02, 0x12, 0x02]), 7, 9);
     assert_refused(&then(&[0x21, 0x01, 0x01, 0x04, 0x03]), 17, 9);
@@ -255,7 +263,7 @@ fn parts_and_roles_come_to_at_most_twelve() {
         }
         sheet
     };
-    assert_counts(&with(11), 0, 1, 11);
+    assert_counts(&with(11), [0, 0, 11, 0, 1]);
     assert_refused(&with(12), 9, 0);
     assert_refused(&with(14), 9, 0);
 }
@@ -270,13 +278,13 @@ fn one_claim_has_one_part_however_often() {
         }
         sheet
     };
-    let apart = |restrictions| apart::read(&with(restrictions)).map(|counts| counts.marks);
+    let apart = |restrictions| apart::read(&with(restrictions)).map(|counts| counts.marks());
     let refusal = Refusal {
         number: 9,
         place: 0,
     };
     for restrictions in [1, 11, 12, 126] {
-        assert_counts(&with(restrictions), 0, 1, 1);
+        assert_counts(&with(restrictions), [0, 0, 1, 0, 1]);
     }
     assert_eq!(apart(1), Ok(1));
     assert_eq!(apart(11), Ok(11));
@@ -287,5 +295,5 @@ fn one_claim_has_one_part_however_often() {
 #[test]
 fn unused_records_count_only_by_their_numbers() {
     let sheet = [0x03, 0x02, 0x10, 0x01, 0x07, 0x01, 0x00];
-    assert_counts(&sheet, 3, 2, 3);
+    assert_counts(&sheet, [3, 0, 0, 0, 2]);
 }

@@ -15,9 +15,9 @@ fn sheets_are_judged() {
 
 #[test]
 fn parts_apart() {
-    for (what, hex, _, parts) in claims::LISTED {
+    for (what, hex, _, _, parts) in claims::LISTED {
         let counts = apart::read(&worked::from_hex(hex));
-        assert_eq!(counts.map(|counts| counts.marks), Ok(*parts), "{what}");
+        assert_eq!(counts.map(|counts| counts.marks()), Ok(*parts), "{what}");
     }
 }
 
@@ -29,7 +29,7 @@ fn some_are_refused_apart() {
     };
     let mut refused = 0;
     for row in claims::judged() {
-        let apart = apart::read(&row.sheet).map(|counts| counts.marks);
+        let apart = apart::read(&row.sheet).map(|counts| counts.marks());
         if row.is_refused_apart() {
             assert_eq!(apart, Err(too_many), "{}", row.what);
             assert_eq!(apart::judge(&row.sheet, &mut [7; 8]), Err(too_many));

@@ -25,7 +25,7 @@ fn members(shape: Shape, set: &[u64]) -> Dominoes {
 fn initial_and_canonical(sheet: &[u8]) -> [Dominoes; 2] {
     let counts = read(sheet).expect("a sheet without faults");
     let shape = Shape {
-        parts: counts.marks as usize,
+        parts: counts.marks() as usize,
         roles: counts.links as usize,
     };
     let mut set = vec![0; shape.words()];

@@ -5,7 +5,7 @@ use comparison::made_up;
 use comparison::random::Random;
 use reference::flat::{flatten, flatten_apart, Filler, FlatKb, Part, Restriction};
 use reference::written::{Concept, Written};
-use reference::{apart, list_marks, Refusal};
+use reference::{apart, list_marks, read, Counts, Refusal};
 use std::rc::Rc;
 
 const SHEETS: usize = 20_000;
@@ -46,13 +46,29 @@ fn restriction(number: usize, concept: &Concept, negated: bool) -> Part {
     Part::Exists(restriction)
 }
 
-/// Compares a flattening with what was listed for its sheet.
+/// What a flattening has of each kind of parts, and of roles.
+fn counts(flat: &FlatKb) -> Counts {
+    let kinds: Vec<u8> = flat.parts.iter().map(kind).collect();
+    let of_kind = |number| kinds.iter().filter(|&&kind| kind == number).count() as u64;
+    Counts {
+        traits: of_kind(0),
+        fresh: of_kind(1),
+        some: of_kind(2),
+        only: of_kind(3),
+        links: flat.roles as u64,
+    }
+}
+
+/// Compares a flattening with what was counted and listed for its sheet.
 fn compare(
     sheet: &[u8],
     flat: Result<FlatKb, Refusal>,
+    counted: Result<Counts, Refusal>,
     listed: Result<usize, Refusal>,
     list: &[u8],
 ) {
+    let of_flat = flat.as_ref().map(counts).map_err(|refusal| *refusal);
+    assert_eq!(of_flat, counted, "{sheet:02X?}");
     assert_eq!(flat.as_ref().err(), listed.as_ref().err(), "{sheet:02X?}");
     let (Ok(flat), Ok(parts)) = (flat, listed) else {
         return;
@@ -79,8 +95,9 @@ fn parts_agree() {
         };
         let mut list = [0; 36];
         let listed = list_marks(&sheet, &mut list);
-        compare(&sheet, flatten(&sheet), listed, &list);
+        compare(&sheet, flatten(&sheet), read(&sheet), listed, &list);
         let listed = apart::list_marks(&sheet, &mut list);
-        compare(&sheet, flatten_apart(&sheet), listed, &list);
+        let counted = apart::read(&sheet);
+        compare(&sheet, flatten_apart(&sheet), counted, listed, &list);
     }
 }

@@ -14,7 +14,7 @@ use reference::{open, read, strike, Conditions, Verdict};
 fn opened(hex: &str) -> Vec<u64> {
     let sheet = worked::from_hex(hex);
     let counts = read(&sheet).expect(hex);
-    assert_eq!(counts.marks, 0, "{hex}");
+    assert_eq!(counts.marks(), 0, "{hex}");
     let role_sets = 1 << (2 * counts.links);
     let mut set = [0; 4];
     open(&sheet, &mut set).expect(hex);
@@ -139,7 +139,7 @@ fn an_axiom_in_the_place_of_an_inclusion() {
     let shape = |sheet: &[u8]| {
         let counts = read(sheet).expect("a sheet without faults");
         Shape {
-            parts: counts.marks as usize,
+            parts: counts.marks() as usize,
             roles: counts.links as usize,
         }
     };

@@ -176,10 +176,10 @@ impl Tally {
     fn check(&mut self, sheet: &[u8], random: &mut Random) {
         let counts = read(sheet).expect("a sheet without faults");
         let written = Written::read(sheet).expect("a sheet without faults");
-        let mut marks = vec![0; 3 * counts.marks as usize];
+        let mut marks = vec![0; 3 * counts.marks() as usize];
         list_marks(sheet, &mut marks).expect("a list long enough");
         let shape = Shape {
-            parts: counts.marks as usize,
+            parts: counts.marks() as usize,
             roles: counts.links as usize,
         };
         let mut judged = vec![0; shape.words()];

@@ -16,7 +16,7 @@ const MOST: u64 = 7;
 
 fn shape(counts: Counts) -> Shape {
     Shape {
-        parts: counts.marks as usize,
+        parts: counts.marks() as usize,
         roles: counts.links as usize,
     }
 }

@@ -1,7 +1,7 @@
 //! Document 01's numbers for open, strike, settle and judge.
 
 use comparison::{suites, worked, Reference};
-use reference::{judge, open, read, settle, strike, Counts, Refusal, Verdict};
+use reference::{judge, open, settle, strike, Refusal, Verdict};
 
 fn refused<T>(number: u64) -> Result<T, Refusal> {
     Err(Refusal { number, place: 0 })
@@ -9,11 +9,8 @@ fn refused<T>(number: u64) -> Result<T, Refusal> {
 
 #[test]
 fn worked_sheets() {
+    suites::worked_counts(&Reference);
     suites::worked_numbers(&Reference);
-    for (hex, marks, ..) in worked::JUDGED {
-        let counts = read(&worked::from_hex(hex)).expect(hex);
-        assert_eq!(counts.marks, marks, "{hex}");
-    }
 }
 
 #[test]
@@ -40,12 +37,6 @@ fn words_needed() {
     assert_eq!(set, vec![u64::MAX; 4_096]);
 
     let twelve = worked::from_hex(worked::TWELVE);
-    let counts = Counts {
-        traits: 12,
-        links: 0,
-        marks: 12,
-    };
-    assert_eq!(read(&twelve), Ok(counts));
     assert_eq!(open(&twelve, &mut vec![0; 262_143]), refused(10));
     assert_eq!(open(&twelve, &mut vec![0; 262_144]), Ok(1 << 24));
 }

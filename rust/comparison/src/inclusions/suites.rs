@@ -24,7 +24,7 @@ impl Judged {
     fn of(engine: &impl Judging, sheet: &[u8]) -> Option<Self> {
         let counts = read(sheet).ok()?;
         let shape = Shape {
-            parts: counts.marks as usize,
+            parts: counts.marks() as usize,
             roles: counts.links as usize,
         };
         if shape.parts + shape.roles > MOST {

@@ -384,7 +384,7 @@ impl RoundTrips {
 fn judged(engine: &impl Judging, sheet: &[u8]) -> Option<(Counts, Judgement, Vec<u64>)> {
     let counts = reference::read(sheet).expect("a sheet without faults");
     let shape = Shape {
-        parts: counts.marks as usize,
+        parts: counts.marks() as usize,
         roles: counts.links as usize,
     };
     if shape.words() > WORDS {

@@ -16,12 +16,12 @@ pub(super) fn shown(refusal: &Refusal, sheet: &[u8]) -> Option<String> {
             Some(needed(counts, &format!("a set takes {words}")))
         }
         (Subject::DominoNumber, Ok(counts)) => {
-            let last = (1_u64 << (2 * (counts.marks + counts.links))) - 1;
+            let last = (1_u64 << (2 * (counts.marks() + counts.links))) - 1;
             let numbered = format!("the pairings are numbered 0 to {last}");
             Some(needed(counts, &numbered))
         }
         (Subject::List, Ok(counts)) => {
-            let bytes = count(3 * counts.marks, "byte");
+            let bytes = count(3 * counts.marks(), "byte");
             Some(needed(counts, &format!("the list takes {bytes}")))
         }
         (Subject::Output, Ok(_)) => {
@@ -50,7 +50,7 @@ pub(super) fn count(number: u64, thing: &str) -> String {
 
 /// What a sheet without faults needs.
 fn needed(counts: Counts, what: &str) -> String {
-    let (marks, links) = (count(counts.marks, "mark"), count(counts.links, "link"));
+    let (marks, links) = (count(counts.marks(), "mark"), count(counts.links, "link"));
     format!("With {marks} and {links} {what}.")
 }
 

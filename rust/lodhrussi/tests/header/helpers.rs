@@ -47,9 +47,9 @@ fn words(text: &mut String) {
     let large = [(0, 40), (most, 0), (0, most), (most, 1), (most, most)];
     for (marks, links) in small.chain(large) {
         let counts = Counts {
-            traits: 0,
+            traits: marks,
             links,
-            marks,
+            ..Counts::default()
         };
         writeln!(text, "{marks} {links} {}", words_needed(counts)).unwrap();
     }

@@ -6,7 +6,9 @@ use std::path::{Path, PathBuf};
 use std::process::Command;
 
 const WRITTEN: &str = "\
-read 0 9 1 1 2
+read 0 9 1 0 1 0 1
+read 0 9 0 2 3 4 1
+read 0 9 1 2 3 4 2
 list 0 9
 0 0 0 2 3 0 9
 open 0 9 32
@@ -17,11 +19,11 @@ strike 11 0 9 9
 settle 0 9 16
 judge 0 9 32 16 1
 judge 2 5 9 9 9
-read 5 1 9 9 9
-read 6 4 9 9 9
-read 16 4 9 9 9
-read 17 8 9 9 9
-read 7 6 9 9 9
+read 5 1 9 9 9 9 9
+read 6 4 9 9 9 9 9
+read 16 4 9 9 9 9 9
+read 17 8 9 9 9 9 9
+read 7 6 9 9 9 9 9
 import 0 9 7
 03 00 03 01 20 00 01 09 09 09
 import 0 9 7
@@ -51,8 +53,8 @@ strike 0 9 1 7
 strike 0 9 1 6
 strike 0 9 2 9
 judge 0 9 12 9 1
-read 8 4 9 9 9
-read 17 6 9 9 9
+read 8 4 9 9 9 9 9
+read 17 6 9 9 9 9 9
 export 20 4 9
 09 09 09 09 09 09 09 09 09 09 09 09 09 09 09 09 09 09 09 09 09 09
 ";

@@ -24,11 +24,28 @@ static void strike(const uint8_t *sheet, size_t n, uint64_t *set, uint64_t numbe
 }
 
 /* The refusal and place of a read, and the counts. */
-static void refused_read(const uint8_t *sheet, size_t n)
+static void read_sheet(const uint8_t *sheet, size_t n)
 {
-    uint64_t out[5] = {9, 9, 9, 9, 9};
-    out[0] = lodhrussi_read(sheet, n, &out[1], &out[2], &out[3], &out[4]);
-    line("read", out, 5);
+    uint64_t out[7] = {9, 9, 9, 9, 9, 9, 9};
+    out[0] = lodhrussi_read(sheet, n, &out[1], &out[2], &out[3], &out[4], &out[5], &out[6]);
+    line("read", out, 7);
+}
+
+/* Sheets with no trait and with one: all counts of the first differ, the second has all kinds of marks. */
+static void counts(void)
+{
+    static const uint8_t no_trait[] = {
+        0x01, 0x02, 0x10, 0x00, 0x11, 0x00, 0x07, 0x02, 0x00, 0x20, 0x00, 0x04, 0x07, 0x03, 0x00, 0x20, 0x00, 0x06,
+        0x05, 0x00, 0x00, 0x07, 0x02, 0x08, 0x20, 0x00, 0x09, 0x08, 0x02, 0x01, 0x20, 0x00, 0x0B, 0x08, 0x03, 0x01,
+        0x20, 0x00, 0x0D, 0x08, 0x02, 0x00, 0x20, 0x00, 0x0F, 0x05, 0x00, 0x00, 0x08, 0x02, 0x11, 0x20, 0x00, 0x12};
+    static const uint8_t one_trait[] = {
+        0x03, 0x00, 0x10, 0x00, 0x10, 0x01, 0x01, 0x02, 0x07, 0x01, 0x00, 0x20, 0x03, 0x05, 0x07, 0x02, 0x00,
+        0x20, 0x03, 0x07, 0x04, 0x00, 0x07, 0x01, 0x09, 0x20, 0x03, 0x0A, 0x08, 0x01, 0x00, 0x20, 0x03, 0x0C,
+        0x08, 0x02, 0x00, 0x20, 0x03, 0x0E, 0x08, 0x01, 0x04, 0x20, 0x03, 0x10, 0x04, 0x00, 0x08, 0x02, 0x12,
+        0x20, 0x03, 0x13};
+    read_sheet(s1, sizeof s1);
+    read_sheet(no_trait, sizeof no_trait);
+    read_sheet(one_trait, sizeof one_trait);
 }
 
 /* The refusal and place of an import or export, the length written, and the bytes of the output. */
@@ -94,8 +111,8 @@ static void link_rules(void)
     judged[0] = lodhrussi_judge(sheet, sizeof sheet, set, 1, &judged[1], &judged[2], &judged[3], &judged[4]);
     line("judge", judged, 5);
 
-    refused_read(on_empty, sizeof on_empty);
-    refused_read(named, sizeof named);
+    read_sheet(on_empty, sizeof on_empty);
+    read_sheet(named, sizeof named);
     export_sheet(sheet, sizeof sheet, 22);
 }
 
@@ -109,9 +126,7 @@ int main(void)
     uint8_t list[7] = {9, 9, 9, 9, 9, 9, 9};
     uint64_t set[1] = {9};
 
-    uint64_t read[5] = {9, 9, 9, 9, 9};
-    read[0] = lodhrussi_read(s1, sizeof s1, &read[1], &read[2], &read[3], &read[4]);
-    line("read", read, 5);
+    counts();
 
     uint64_t listed[2] = {9, 9};
     listed[0] = lodhrussi_list_marks(s1, sizeof s1, list, sizeof list, &listed[1]);
@@ -140,11 +155,11 @@ int main(void)
     refused[0] = lodhrussi_judge(s1, 7, set, 1, &refused[1], &refused[2], &refused[3], &refused[4]);
     line("judge", refused, 5);
 
-    refused_read(not_earlier, sizeof not_earlier);
-    refused_read(link_for_class, sizeof link_for_class);
-    refused_read(class_for_link, sizeof class_for_link);
-    refused_read(rule_named, sizeof rule_named);
-    refused_read(named_twice, sizeof named_twice);
+    read_sheet(not_earlier, sizeof not_earlier);
+    read_sheet(link_for_class, sizeof link_for_class);
+    read_sheet(class_for_link, sizeof class_for_link);
+    read_sheet(rule_named, sizeof rule_named);
+    read_sheet(named_twice, sizeof named_twice);
 
     texts();
     link_rules();

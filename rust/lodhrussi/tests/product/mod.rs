@@ -32,8 +32,10 @@ impl Reading for Product {
         let counts = lodhrussi::read(sheet).map_err(refused(Call::Read))?;
         Ok(Counts {
             traits: counts.traits,
+            fresh: counts.fresh,
+            some: counts.some,
+            only: counts.only,
             links: counts.links,
-            marks: counts.marks,
         })
     }
 

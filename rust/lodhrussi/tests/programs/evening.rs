@@ -4,7 +4,7 @@
 use comparison::program::{assert_same, Program};
 use comparison::running::Running;
 use comparison::suites;
-use comparison::worked::{from_hex, JUDGED, N8, N8_MET, S1};
+use comparison::worked::{from_hex, JUDGED, N8, N8_MET, S1, S5, S6};
 use std::fs::File;
 use std::time::Duration;
 
@@ -14,11 +14,18 @@ const INPUT_FAILED: &str = "evening: standard input cannot be read\n";
 
 const S2: &str = JUDGED[2].0;
 
-const OF_EMPTY: &str = "traits 0 links 0 marks 0\nopening 1 survivors 1\ncan be met\n";
-const OF_S1: &str = "traits 1 links 1 marks 2\nopening 32 survivors 16\ncan be met\n";
-const OF_S2: &str = "traits 1 links 1 marks 2\nopening 16 survivors 0\ncannot be met\n";
-const OF_N8_MET: &str = "traits 0 links 2 marks 2\nopening 32 survivors 4\ncan be met\n";
-const OF_N8: &str = "traits 0 links 2 marks 2\nopening 16 survivors 0\ncannot be met\n";
+const OF_EMPTY: &str =
+    "traits 0 fresh 0 some 0 only 0 links 0\nopening 1 survivors 1\ncan be met\n";
+const OF_S1: &str = "traits 1 fresh 0 some 1 only 0 links 1\nopening 32 survivors 16\ncan be met\n";
+const OF_S2: &str =
+    "traits 1 fresh 0 some 1 only 0 links 1\nopening 16 survivors 0\ncannot be met\n";
+const OF_S5: &str = "traits 1 fresh 0 some 0 only 1 links 1\nopening 48 survivors 16\ncan be met\n";
+const OF_S6: &str =
+    "traits 1 fresh 1 some 1 only 0 links 1\nopening 144 survivors 85\ncan be met\n";
+const OF_N8_MET: &str =
+    "traits 0 fresh 0 some 1 only 1 links 2\nopening 32 survivors 4\ncan be met\n";
+const OF_N8: &str =
+    "traits 0 fresh 0 some 1 only 1 links 2\nopening 16 survivors 0\ncannot be met\n";
 
 /// What is printed where a 256th record begins after [`longest`].
 const TOO_LONG: &str = "refused 3 at 763\n";
@@ -60,6 +67,8 @@ fn the_worked_sheets() {
     let rows = [
         (from_hex(S1), OF_S1),
         (from_hex(S2), OF_S2),
+        (from_hex(S5), OF_S5),
+        (from_hex(S6), OF_S6),
         (from_hex("03 00 04 00 05 01 01"), "refused 7 at 6\n"),
         (vec![], OF_EMPTY),
     ];
@@ -103,7 +112,8 @@ fn sheets_that_repeat_a_claim() {
          07 01 00 20 00 07 07 01 00 20 02 09 07 01 00 20 03 0B \
          07 01 00 20 04 0D 07 01 00 20 05 0F 07 01 00 20 06 11",
     );
-    let of_six = "traits 6 links 1 marks 7\nopening 33152 survivors 16772\ncan be met\n";
+    let of_six = "traits 6 fresh 0 some 1 only 0 links 1\n\
+                  opening 33152 survivors 16772\ncan be met\n";
     let rows = [(repeated(60), OF_S1), (six_names, of_six)];
     assert_all("sheets that repeat a claim", &rows);
 }
@@ -138,7 +148,8 @@ fn chunks() {
 
 #[test]
 fn numbers_of_names_and_roles() {
-    let of_nine = "traits 9 links 0 marks 9\nopening 262144 survivors 262144\ncan be met\n";
+    let of_nine = "traits 9 fresh 0 some 0 only 0 links 0\n\
+                   opening 262144 survivors 262144\ncan be met\n";
     let rows = [
         (vec![0x03, 8], of_nine),
         (vec![0x03, 9], "refused 10 at 0\n"),
