@@ -6,6 +6,7 @@ mod text;
 
 use crate::answer::{judged, status, Answer, Found, Totals, Words};
 use crate::arguments::{Form, Judge};
+use crate::counts;
 use crate::json::Object;
 use crate::names::Names;
 use crate::picture::picture;
@@ -164,10 +165,8 @@ fn object(source: &Source, answer: &Answer) -> Object {
         Ok(found) => found,
         Err(refusal) => return refused(&source.name, &source.bytes, refusal),
     };
-    about(&source.name, if judgement.met { "met" } else { "unmet" })
-        .number("traits", counts.traits)
-        .number("links", counts.links)
-        .number("marks", counts.marks)
+    let object = about(&source.name, if judgement.met { "met" } else { "unmet" });
+    counts::put(*counts, object)
         .number("opening", judgement.opening)
         .number("survivors", judgement.survivors)
 }

@@ -43,10 +43,12 @@ pub fn evening(answer: &Answer) -> String {
         Err(refusal) => return format!("refused {} at {}\n", refusal.number, refusal.place),
     };
     format!(
-        "traits {} links {} marks {}\nopening {} survivors {}\n{} be met\n",
+        "traits {} fresh {} some {} only {} links {}\nopening {} survivors {}\n{} be met\n",
         counts.traits,
+        counts.fresh,
+        counts.some,
+        counts.only,
         counts.links,
-        counts.marks,
         judgement.opening,
         judgement.survivors,
         if judgement.met { "can" } else { "cannot" }
@@ -81,6 +83,7 @@ mod tests {
     use super::*;
     use comparison::queues;
     use comparison::random::Random;
+    use lodhrussi::{Counts, Judgement};
 
     fn source(bytes: Vec<u8>) -> Source {
         Source {
@@ -96,11 +99,12 @@ mod tests {
         let rows: [(&[u8], &str); 4] = [
             (
                 &[3, 8],
-                "traits 9 links 0 marks 9\nopening 262144 survivors 262144\ncan be met\n",
+                "traits 9 fresh 0 some 0 only 0 links 0\n\
+                 opening 262144 survivors 262144\ncan be met\n",
             ),
             (
                 &[1, 2, 0x20, 0, 1],
-                "traits 0 links 0 marks 0\nopening 0 survivors 0\ncannot be met\n",
+                "traits 0 fresh 0 some 0 only 0 links 0\nopening 0 survivors 0\ncannot be met\n",
             ),
             (&[3, 9], "refused 10 at 0\n"),
             (&[3, 0, 4, 0, 5, 1, 1], "refused 7 at 6\n"),
@@ -109,6 +113,26 @@ mod tests {
             let answer = alone(&source(sheet.into()), &mut Words::default());
             assert_eq!(evening(&answer), expected);
         }
+    }
+
+    /// No two of the numbers are alike.
+    #[test]
+    fn the_counts_of_a_sheet_alone() {
+        let counts = Counts {
+            traits: 1,
+            fresh: 2,
+            some: 3,
+            only: 4,
+            links: 5,
+        };
+        let judgement = Judgement {
+            opening: 7,
+            survivors: 6,
+            met: true,
+        };
+        let expected =
+            "traits 1 fresh 2 some 3 only 4 links 5\nopening 7 survivors 6\ncan be met\n";
+        assert_eq!(evening(&Ok(Found { counts, judgement })), expected);
     }
 
     /// The lines of made-up sheets are those that the reference has for the

@@ -4,6 +4,7 @@
 mod answer;
 mod arguments;
 mod count;
+mod counts;
 mod export;
 mod help;
 mod hex;

@@ -80,7 +80,7 @@ impl Part {
 ///
 /// The refusals of reading it.
 pub fn parts(sheet: &[u8], counts: Counts) -> Result<Vec<Part>, Refusal> {
-    let mut list = vec![[0; 3]; usize::try_from(counts.marks).unwrap_or_default()];
+    let mut list = vec![[0; 3]; usize::try_from(counts.marks()).unwrap_or_default()];
     lodhrussi::list_marks(sheet, list.as_flattened_mut())?;
     let trees = trees(sheet);
     let parts = list.into_iter().map(|listed| Part::of(listed, &trees));

@@ -128,7 +128,7 @@ struct Domino {
 impl Domino {
     fn of(number: u64, counts: Counts) -> Self {
         let low = |bits: u64, number: u64| number & ((1 << bits) - 1);
-        let (label, roles) = (counts.marks, 2 * counts.links);
+        let (label, roles) = (counts.marks(), 2 * counts.links);
         Domino {
             left: low(label, number >> (roles + label)),
             roles: low(roles, number >> label),

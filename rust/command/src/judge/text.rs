@@ -2,6 +2,7 @@
 
 use crate::answer::{Answer, Found, Totals};
 use crate::count::count;
+use crate::counts;
 use crate::picture;
 use crate::source::Source;
 use lodhrussi::Judgement;
@@ -10,11 +11,9 @@ use lodhrussi::Judgement;
 pub fn whole(found: &Found) -> String {
     let Found { counts, judgement } = found;
     format!(
-        "{}\ntraits {}, links {}, marks {}; opening {}, survivors {}\n{}\n",
+        "{}\n{}; opening {}, survivors {}\n{}\n",
         verdict(judgement),
-        counts.traits,
-        counts.links,
-        counts.marks,
+        counts::phrase(*counts),
         judgement.opening,
         judgement.survivors,
         sentence(judgement)
@@ -93,9 +92,11 @@ mod tests {
         let met = survivors > 0;
         let found = Found {
             counts: Counts {
-                traits: 1,
-                links: 2,
-                marks: 3,
+                traits: 2,
+                fresh: 0,
+                some: 1,
+                only: 4,
+                links: 3,
             },
             judgement: Judgement {
                 opening,
@@ -109,12 +110,12 @@ mod tests {
     #[test]
     fn a_whole_answer() {
         let expected = "can be met\n\
-            traits 1, links 2, marks 3; opening 32, survivors 16\n\
+            marks 7 (traits 2, fresh 0, some 1, only 4), links 3; opening 32, survivors 16\n\
             Some finite plant of at least one item keeps all rules of this sheet: of the 32 \
             pairings that break no rule by themselves 16 can stand together.\n";
         assert_eq!(told(32, 16), expected);
         let expected = "cannot be met\n\
-            traits 1, links 2, marks 3; opening 16, survivors 0\n\
+            marks 7 (traits 2, fresh 0, some 1, only 4), links 3; opening 16, survivors 0\n\
             No finite plant of at least one item keeps all rules of this sheet: of the 16 \
             pairings that break no rule by themselves none can stand together.\n";
         assert_eq!(told(16, 0), expected);

@@ -1,6 +1,7 @@
 //! A sheet for programs.
 
 use super::{nots, Listing, Row, MOST_BYTES};
+use crate::counts;
 use crate::json::Object;
 use crate::parts::Part;
 use crate::sheet::Sheet;
@@ -12,12 +13,9 @@ impl Listing<'_> {
     pub(super) fn object(&self, counts: Counts, parts: &[Part]) -> Object {
         let parts = (0..).zip(parts);
         let parts = parts.map(|(number, part)| part_object(number, part, self.sheet));
-        self.with_records(self.sheet.object("shown"))
-            .texts("rules", self.rules())
-            .number("traits", counts.traits)
-            .number("links", counts.links)
-            .number("marks", counts.marks)
-            .objects("mark_list", parts)
+        let object = self.with_records(self.sheet.object("shown"));
+        let object = object.texts("rules", self.rules());
+        counts::put(counts, object).objects("mark_list", parts)
     }
 
     /// An object with the records put in, and the sheet's length if it is known.

@@ -38,12 +38,12 @@ fn no_bytes() {
 
 no rules
 
-traits 0, links 0, marks 0
+marks 0 (traits 0, fresh 0, some 0, only 0), links 0
 ";
     assert_shown("", "", Status::Answered, expected);
     let fields = [
         r#""answer":"shown","bytes":0,"records":[],"rules":[]"#,
-        r#""traits":0,"links":0,"marks":0,"mark_list":[]"#,
+        r#""traits":0,"fresh":0,"some":0,"only":0,"links":0,"marks":0,"mark_list":[]"#,
     ];
     assert_object("", "", Status::Answered, &fields);
 }
@@ -61,7 +61,7 @@ record  byte  bytes     kind            stands for
 rules
   every t0 is some k0 . not t0
 
-traits 1, links 1, marks 3
+marks 3 (traits 1, fresh 1, some 1, only 0), links 1
 mark  kind   record  nots  stands for
    0  trait       -  -     t0
    1  some        3  even  some k0 . not t0
@@ -88,7 +88,7 @@ rules
   every everything is some feeds . 'reheat coil'
   every 'reheat coil' is only feeds reversed . nothing
 
-traits 1, links 1, marks 3
+marks 3 (traits 1, fresh 0, some 1, only 1), links 1
 mark  kind   record  nots  stands for
    0  trait       -  -     'reheat coil'
    1  some        3  even  some feeds . 'reheat coil'
@@ -111,7 +111,7 @@ record  byte  bytes     kind            stands for
 rules
   every only k0 . everything is nothing
 
-traits 0, links 1, marks 1
+marks 1 (traits 0, fresh 0, some 1, only 0), links 1
 mark  kind   record  nots  stands for
    0  some        2  odd   some k0 . nothing
 ";
@@ -124,7 +124,8 @@ mark  kind   record  nots  stands for
         r#""used":true},{"record":3,"byte":6,"bytes":"02","kind":"nothing","text":"nothing""#,
         r#""used":true},{"record":4,"byte":7,"bytes":"20 02 03","kind":"rule""#,
         r#""text":"every only on . everything is nothing","used":true}]"#,
-        r#""rules":["every only on . everything is nothing"],"traits":0,"links":1,"marks":1"#,
+        r#""rules":["every only on . everything is nothing"],"traits":0,"fresh":0,"some":1"#,
+        r#""only":0,"links":1,"marks":1"#,
         r#""mark_list":[{"mark":0,"kind":"some","record":2,"nots":"odd""#,
         r#""text":"some on . nothing"}]"#,
     ];
@@ -150,7 +151,7 @@ rules
   every everything is only supplies . nothing
   feeds within supplies
 
-traits 0, links 2, marks 2
+marks 2 (traits 0, fresh 0, some 1, only 1), links 2
 mark  kind   record  nots  stands for
    0  some        4  even  some feeds . everything
    1  only        6  even  only supplies . nothing
@@ -164,7 +165,8 @@ mark  kind   record  nots  stands for
         r#"{"record":2,"byte":4,"bytes":"12 01","kind":"not of a link""#,
         r#""text":"not k0 reversed","used":true},{"record":3,"byte":6,"bytes":"21 00 02""#,
         r#""kind":"link rule","text":"k0 within not k0 reversed","used":true}]"#,
-        r#""rules":["k0 within not k0 reversed"],"traits":0,"links":1,"marks":0"#,
+        r#""rules":["k0 within not k0 reversed"],"traits":0,"fresh":0,"some":0"#,
+        r#""only":0,"links":1,"marks":0"#,
         r#""mark_list":[]"#,
     ];
     assert_object("10 00 11 00 12 01 21 00 02", "", Status::Answered, &fields);
@@ -185,7 +187,7 @@ record  byte  bytes     kind            stands for
 rules
   every t0 is t1
 
-traits 2, links 1, marks 2
+marks 2 (traits 2, fresh 0, some 0, only 0), links 1
 mark  kind   record  nots  stands for
    0  trait       -  -     t0
    1  trait       -  -     t1
@@ -197,12 +199,13 @@ record  byte  bytes     kind            stands for
 
 no rules
 
-traits 0, links 0, marks 0
+marks 0 (traits 0, fresh 0, some 0, only 0), links 0
 ";
     assert_shown("02", "", Status::Answered, expected);
     let fields = [
         r#""answer":"shown","bytes":2,"records":[{"record":0,"byte":0,"bytes":"03 00""#,
-        r#""kind":"trait","text":"t0","used":false}],"rules":[],"traits":1,"links":0,"marks":1"#,
+        r#""kind":"trait","text":"t0","used":false}],"rules":[],"traits":1,"fresh":0"#,
+        r#""some":0,"only":0,"links":0,"marks":1"#,
         r#""mark_list":[{"mark":0,"kind":"trait","trait":0,"text":"t0"}]"#,
     ];
     assert_object("03 00", "", Status::Answered, &fields);

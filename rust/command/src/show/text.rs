@@ -2,6 +2,7 @@
 
 use super::{nots, Listing, Row, MOST_BYTES};
 use crate::count::count;
+use crate::counts;
 use crate::parts::Part;
 use crate::sheet::Sheet;
 use lodhrussi::records::Record;
@@ -15,14 +16,10 @@ impl Listing<'_> {
             [] => "no rules\n".into(),
             rules => format!("rules\n  {}\n", rules.join("\n  ")),
         };
-        let Counts {
-            traits,
-            links,
-            marks,
-        } = counts;
         format!(
-            "{}\n{rules}\ntraits {traits}, links {links}, marks {marks}\n{}",
+            "{}\n{rules}\n{}\n{}",
             self.records_text(),
+            counts::phrase(counts),
             parts_text(parts, self.sheet)
         )
     }

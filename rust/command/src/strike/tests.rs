@@ -168,20 +168,22 @@ The reference at byte 1 names no earlier record. Byte 1 is 00, the only referenc
 
 #[test]
 fn a_domino_is_put_together_again() {
-    for (marks, links) in [
-        (0, 0),
-        (1, 0),
-        (0, 1),
-        (2, 1),
-        (3, 1),
-        (3, 2),
-        (1, 4),
-        (12, 0),
+    for ([traits, fresh, some, only], marks, links) in [
+        ([0, 0, 0, 0], 0, 0),
+        ([1, 0, 0, 0], 1, 0),
+        ([0, 0, 0, 0], 0, 1),
+        ([1, 0, 1, 0], 2, 1),
+        ([0, 1, 1, 1], 3, 1),
+        ([1, 0, 0, 2], 3, 2),
+        ([0, 0, 0, 1], 1, 4),
+        ([3, 4, 1, 4], 12, 0),
     ] {
         let counts = Counts {
-            traits: 0,
+            traits,
+            fresh,
+            some,
+            only,
             links,
-            marks,
         };
         let dominoes = 1_u64 << (2 * (marks + links));
         let step = usize::try_from(dominoes / 4096).expect("a step").max(1);
@@ -213,7 +215,7 @@ fn the_verdicts_are_those_of_the_reference() {
     let made_up = (0..40).map(|_| made_up::small_sheet(4, &mut random));
     for bytes in worked.into_iter().chain(made_up.collect::<Vec<_>>()) {
         let counts = lodhrussi::read(&bytes).expect("a sheet without faults");
-        let numbers: Vec<_> = (0..1 << (2 * (counts.marks + counts.links))).collect();
+        let numbers: Vec<_> = (0..1 << (2 * (counts.marks() + counts.links))).collect();
         let mut set = vec![0; words_needed(counts)];
         Reference.open(&bytes, &mut set).expect("an opened set");
         let expected = numbers.iter().map(|&number| {

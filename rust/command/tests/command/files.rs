@@ -10,7 +10,7 @@ use std::os::unix::fs::PermissionsExt;
 use std::os::unix::process::CommandExt;
 
 const OF_S1: &str = "can be met\n\
-    traits 1, links 1, marks 2; opening 32, survivors 16\n\
+    marks 2 (traits 1, fresh 0, some 1, only 0), links 1; opening 32, survivors 16\n\
     Some finite plant of at least one item keeps all rules of this sheet: \
     of the 32 pairings that break no rule by themselves 16 can stand together.\n";
 
@@ -89,7 +89,7 @@ fn a_file_without_permission() {
 #[test]
 fn an_empty_file() {
     let folder = Folder::with(&[("empty", "")]);
-    let lines = "traits 0 links 0 marks 0\nopening 1 survivors 1\ncan be met\n";
+    let lines = "traits 0 fresh 0 some 0 only 0 links 0\nopening 1 survivors 1\ncan be met\n";
     run(&folder, &["judge", "--lines", "empty"]).is(0, lines, "");
     run(&folder, &["judge", "--lines", "-"]).is(0, lines, "");
     run(&folder, &["judge", "--lines", "/dev/null"]).is(0, lines, "");

@@ -8,55 +8,55 @@ use comparison::worked::{JUDGED, S1, TWELVE};
 /// What is printed of each of [`JUDGED`].
 const OF_JUDGED: [&str; 13] = [
     "can be met\n\
-     traits 0, links 0, marks 0; opening 1, survivors 1\n\
+     marks 0 (traits 0, fresh 0, some 0, only 0), links 0; opening 1, survivors 1\n\
      Some finite plant of at least one item keeps all rules of this sheet: \
      the one pairing that breaks no rule by itself can stand.\n",
     "can be met\n\
-     traits 1, links 1, marks 2; opening 32, survivors 16\n\
+     marks 2 (traits 1, fresh 0, some 1, only 0), links 1; opening 32, survivors 16\n\
      Some finite plant of at least one item keeps all rules of this sheet: \
      of the 32 pairings that break no rule by themselves 16 can stand together.\n",
     "cannot be met\n\
-     traits 1, links 1, marks 2; opening 16, survivors 0\n\
+     marks 2 (traits 1, fresh 0, some 1, only 0), links 1; opening 16, survivors 0\n\
      No finite plant of at least one item keeps all rules of this sheet: \
      of the 16 pairings that break no rule by themselves none can stand together.\n",
     "cannot be met\n\
-     traits 1, links 1, marks 3; opening 64, survivors 0\n\
+     marks 3 (traits 1, fresh 0, some 1, only 1), links 1; opening 64, survivors 0\n\
      No finite plant of at least one item keeps all rules of this sheet: \
      of the 64 pairings that break no rule by themselves none can stand together.\n",
     "cannot be met\n\
-     traits 0, links 1, marks 1; opening 8, survivors 0\n\
+     marks 1 (traits 0, fresh 0, some 1, only 0), links 1; opening 8, survivors 0\n\
      No finite plant of at least one item keeps all rules of this sheet: \
      of the 8 pairings that break no rule by themselves none can stand together.\n",
     "can be met\n\
-     traits 1, links 1, marks 2; opening 48, survivors 16\n\
+     marks 2 (traits 1, fresh 0, some 0, only 1), links 1; opening 48, survivors 16\n\
      Some finite plant of at least one item keeps all rules of this sheet: \
      of the 48 pairings that break no rule by themselves 16 can stand together.\n",
     "can be met\n\
-     traits 1, links 1, marks 3; opening 144, survivors 85\n\
+     marks 3 (traits 1, fresh 1, some 1, only 0), links 1; opening 144, survivors 85\n\
      Some finite plant of at least one item keeps all rules of this sheet: \
      of the 144 pairings that break no rule by themselves 85 can stand together.\n",
     "can be met\n\
-     traits 1, links 0, marks 1; opening 4, survivors 4\n\
+     marks 1 (traits 1, fresh 0, some 0, only 0), links 0; opening 4, survivors 4\n\
      Some finite plant of at least one item keeps all rules of this sheet: \
      of the 4 pairings that break no rule by themselves 4 can stand together.\n",
     "can be met\n\
-     traits 0, links 2, marks 2; opening 32, survivors 4\n\
+     marks 2 (traits 0, fresh 0, some 1, only 1), links 2; opening 32, survivors 4\n\
      Some finite plant of at least one item keeps all rules of this sheet: \
      of the 32 pairings that break no rule by themselves 4 can stand together.\n",
     "cannot be met\n\
-     traits 0, links 2, marks 2; opening 16, survivors 0\n\
+     marks 2 (traits 0, fresh 0, some 1, only 1), links 2; opening 16, survivors 0\n\
      No finite plant of at least one item keeps all rules of this sheet: \
      of the 16 pairings that break no rule by themselves none can stand together.\n",
     "can be met\n\
-     traits 0, links 2, marks 0; opening 12, survivors 9\n\
+     marks 0 (traits 0, fresh 0, some 0, only 0), links 2; opening 12, survivors 9\n\
      Some finite plant of at least one item keeps all rules of this sheet: \
      of the 12 pairings that break no rule by themselves 9 can stand together.\n",
     "can be met\n\
-     traits 1, links 1, marks 2; opening 24, survivors 8\n\
+     marks 2 (traits 1, fresh 0, some 1, only 0), links 1; opening 24, survivors 8\n\
      Some finite plant of at least one item keeps all rules of this sheet: \
      of the 24 pairings that break no rule by themselves 8 can stand together.\n",
     "can be met\n\
-     traits 1, links 2, marks 2; opening 112, survivors 48\n\
+     marks 2 (traits 1, fresh 0, some 1, only 0), links 2; opening 112, survivors 48\n\
      Some finite plant of at least one item keeps all rules of this sheet: \
      of the 112 pairings that break no rule by themselves 48 can stand together.\n",
 ];
@@ -88,7 +88,7 @@ fn one_sheet() {
 fn a_sheet_without_an_opening_pairing() {
     let folder = Folder::with(&[("none.hex", NO_OPENING)]);
     let expected = "cannot be met\n\
-        traits 0, links 0, marks 0; opening 0, survivors 0\n\
+        marks 0 (traits 0, fresh 0, some 0, only 0), links 0; opening 0, survivors 0\n\
         No finite plant of at least one item keeps all rules of this sheet: \
         every pairing breaks a rule by itself.\n";
     run(&folder, &["judge", "none.hex"]).is(1, expected, "");
@@ -99,7 +99,8 @@ fn a_sheet_without_an_opening_pairing() {
 fn a_sheet_of_twelve() {
     let folder = Folder::with(&[("twelve.hex", TWELVE)]);
     let expected = "can be met\n\
-        traits 12, links 0, marks 12; opening 16777216, survivors 16777216\n\
+        marks 12 (traits 12, fresh 0, some 0, only 0), links 0; \
+        opening 16777216, survivors 16777216\n\
         Some finite plant of at least one item keeps all rules of this sheet: of the 16777216 \
         pairings that break no rule by themselves 16777216 can stand together.\n";
     run(&folder, &["judge", "twelve.hex"]).is(0, expected, "");
@@ -115,7 +116,8 @@ fn the_set_of_the_programs() {
         folder.write(&name, format!("03 {:02X}", names - 1));
         let (traits, size) = (names, 1_u64 << (2 * names));
         let counts = format!(
-            "traits {traits} links 0 marks {traits}\nopening {size} survivors {size}\ncan be met\n"
+            "traits {traits} fresh 0 some 0 only 0 links 0\n\
+             opening {size} survivors {size}\ncan be met\n"
         );
         let ran = run(&folder, &["judge", "--lines", &name]);
         if names < 10 {
@@ -203,10 +205,10 @@ fn a_missing_file_among_several() {
     run(&folder, &["judge", "none.hex", "none.hex"]).is(3, none, &NONE.repeat(2));
 }
 
-const S1_JSON: &str = "{\"file\":\"s1.hex\",\"answer\":\"met\",\"traits\":1,\"links\":1,\
-    \"marks\":2,\"opening\":32,\"survivors\":16}\n";
-const S2_JSON: &str = "{\"file\":\"s2.hex\",\"answer\":\"unmet\",\"traits\":1,\"links\":1,\
-    \"marks\":2,\"opening\":16,\"survivors\":0}\n";
+const S1_JSON: &str = "{\"file\":\"s1.hex\",\"answer\":\"met\",\"traits\":1,\"fresh\":0,\
+    \"some\":1,\"only\":0,\"links\":1,\"marks\":2,\"opening\":32,\"survivors\":16}\n";
+const S2_JSON: &str = "{\"file\":\"s2.hex\",\"answer\":\"unmet\",\"traits\":1,\"fresh\":0,\
+    \"some\":1,\"only\":0,\"links\":1,\"marks\":2,\"opening\":16,\"survivors\":0}\n";
 const BAD_JSON: &str = "{\"file\":\"bad.hex\",\"answer\":\"refused\",\"number\":5,\"place\":1,\
     \"sentence\":\"The reference at byte 1 names no earlier record. Byte 1 is 00, the only \
     reference of record 0 (04, not of a class, at byte 0): it names record 0, and no record \

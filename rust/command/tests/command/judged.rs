@@ -16,7 +16,7 @@ use reference::Judgement;
 fn judged(sheet: &[u8]) -> Result<Judgement, reference::Refusal> {
     let counts = reference::read(sheet)?;
     let shape = Shape {
-        parts: counts.marks as usize,
+        parts: counts.marks() as usize,
         roles: counts.links as usize,
     };
     reference::judge(sheet, &mut vec![0; shape.words()])
@@ -115,7 +115,7 @@ fn compare(sheets: &[Vec<u8>], options: &[&str], random: &mut Random) -> (u64, T
 fn made_up_sheets() {
     let mut random = Random::seeded(70);
     let fits = |sheet: &Vec<u8>| {
-        !reference::read(sheet).is_ok_and(|counts| counts.marks + counts.links > 7)
+        !reference::read(sheet).is_ok_and(|counts| counts.marks() + counts.links > 7)
     };
     let mut lines = 0;
     for options in [

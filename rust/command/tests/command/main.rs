@@ -7,6 +7,7 @@ mod run;
 mod sheets;
 mod words;
 
+mod counts;
 mod files;
 mod judge;
 mod judged;

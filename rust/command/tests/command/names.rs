@@ -24,7 +24,7 @@ record  byte  bytes     kind            stands for
 rules
   every 'reheat coil' is some feeds . not 'reheat coil'
 
-traits 1, links 1, marks 3
+marks 3 (traits 1, fresh 1, some 1, only 0), links 1
 mark  kind   record  nots  stands for
    0  trait       -  -     'reheat coil'
    1  some        3  even  some feeds . not 'reheat coil'
@@ -210,7 +210,7 @@ fn wrong_names_where_sheets_are_judged() {
         ("bad.hex", "04 00"),
         ("bad.names", "coil"),
     ]);
-    let lines = "traits 1 links 1 marks 2\nopening 32 survivors 16\ncan be met\n";
+    let lines = "traits 1 fresh 0 some 1 only 0 links 1\nopening 32 survivors 16\ncan be met\n";
     run(&folder, &["judge", "--lines", "s1.hex"]).is(0, lines, "");
     let several = "s1.hex: can be met, 16 of 32 pairings left\n".repeat(2)
         + "2 sheets: 2 can be met, 0 cannot be met, 0 refused; 32 survivors\n";

@@ -103,8 +103,8 @@ fn closed_descriptors() {
 /// not take it.
 #[test]
 fn a_reader_that_goes_away() {
-    let object = "{\"file\":\"s1.hex\",\"answer\":\"met\",\"traits\":1,\"links\":1,\
-                  \"marks\":2,\"opening\":32,\"survivors\":16}\n";
+    let object = "{\"file\":\"s1.hex\",\"answer\":\"met\",\"traits\":1,\"fresh\":0,\"some\":1,\
+                  \"only\":0,\"links\":1,\"marks\":2,\"opening\":32,\"survivors\":16}\n";
     let line = "s1.hex: can be met, 16 of 32 pairings left\n";
     let folder = folder();
     for (form, first) in [("--jobs=2", line), ("--json", object)] {

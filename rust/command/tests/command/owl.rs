@@ -202,7 +202,7 @@ fn texts_are_judged_as_sheets() {
         let Ok(again) = lodhrussi::imported(text.as_bytes()) else {
             continue;
         };
-        if counts.marks + counts.links > 8 {
+        if counts.marks() + counts.links > 8 {
             continue;
         }
         folder.write(&format!("sheets/{number}"), hex(&again));

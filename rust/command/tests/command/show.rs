@@ -17,7 +17,7 @@ record  byte  bytes     kind            stands for
 rules
   every t0 is some k0 . not t0
 
-traits 1, links 1, marks 3
+marks 3 (traits 1, fresh 1, some 1, only 0), links 1
 mark  kind   record  nots  stands for
    0  trait       -  -     t0
    1  some        3  even  some k0 . not t0
@@ -61,7 +61,7 @@ rules
   every t0 is everything or t1
   k0 within (k0 reversed or k0)
 
-traits 2, links 1, marks 5
+marks 5 (traits 2, fresh 1, some 0, only 2), links 1
 mark  kind   record  nots  stands for
    0  trait       -  -     t0
    1  trait       -  -     t1
@@ -98,7 +98,7 @@ rules
   every everything is only 'within' . nothing
   feeds within 'within'
 
-traits 0, links 2, marks 2
+marks 2 (traits 0, fresh 0, some 1, only 1), links 2
 mark  kind   record  nots  stands for
    0  some        4  even  some feeds . everything
    1  only        6  even  only 'within' . nothing
@@ -127,7 +127,8 @@ fn a_sheet_with_a_link_rule() {
 #[test]
 fn sheets_without_a_rule() {
     let folder = Folder::with(&[("s0.hex", ""), ("t0.hex", "03 00")]);
-    let of_nothing = "s0.hex: 0 bytes, 0 records\n\nno rules\n\ntraits 0, links 0, marks 0\n";
+    let of_nothing = "s0.hex: 0 bytes, 0 records\n\nno rules\n\n\
+        marks 0 (traits 0, fresh 0, some 0, only 0), links 0\n";
     run(&folder, &["show", "s0.hex"]).is(0, of_nothing, "");
     let of_one = "\
 t0.hex: 2 bytes, 1 record
@@ -136,7 +137,7 @@ record  byte  bytes     kind            stands for
 
 no rules
 
-traits 1, links 0, marks 1
+marks 1 (traits 1, fresh 0, some 0, only 0), links 0
 mark  kind   record  nots  stands for
    0  trait       -  -     t0
 ";
@@ -227,7 +228,7 @@ const S6_OBJECT: &str = r#"{"file":"s6.hex","answer":"shown","bytes":12,"records
 {"record":2,"byte":4,"bytes":"04 00","kind":"not of a class","text":"not t0","used":true},
 {"record":3,"byte":6,"bytes":"07 01 02","kind":"some","text":"some k0 . not t0","used":true},
 {"record":4,"byte":9,"bytes":"20 00 03","kind":"rule","text":"every t0 is some k0 . not t0","used":true}],
-"rules":["every t0 is some k0 . not t0"],"traits":1,"links":1,"marks":3,"mark_list":[
+"rules":["every t0 is some k0 . not t0"],"traits":1,"fresh":1,"some":1,"only":0,"links":1,"marks":3,"mark_list":[
 {"mark":0,"kind":"trait","trait":0,"text":"t0"},
 {"mark":1,"kind":"some","record":3,"nots":"even","text":"some k0 . not t0"},
 {"mark":2,"kind":"fresh","record":2,"nots":"even","text":"not t0"}]}"#;

@@ -135,12 +135,18 @@ fn shown(name: &str, sheet: &[u8]) -> String {
     for rule in rules {
         text += &format!("  {rule}\n");
     }
+    let marks = counts.marks();
     let reference::Counts {
         traits,
+        fresh,
+        some,
+        only,
         links,
-        marks,
     } = counts;
-    text += &format!("\ntraits {traits}, links {links}, marks {marks}\n");
+    text += &format!(
+        "\nmarks {marks} (traits {traits}, fresh {fresh}, some {some}, only {only}), \
+         links {links}\n"
+    );
     if marks > 0 {
         text += "mark  kind   record  nots  stands for\n";
         text += &part_rows(sheet, marks);

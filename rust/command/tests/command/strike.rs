@@ -234,7 +234,7 @@ fn made_up_sheets() {
             _ => few_axioms::unmet_sheet(size, &mut random),
         };
         let counts = reference::read(&sheet).expect("a sheet without faults");
-        let dominoes = 1 << (2 * (counts.marks + counts.links));
+        let dominoes = 1 << (2 * (counts.marks() + counts.links));
         let numbers: Vec<_> = (0..60).map(|_| random.word() % dominoes).collect();
         folder.write("sheet", file(&sheet, &mut random));
         let mut arguments = vec!["strike".to_string(), "sheet".into()];

@@ -7,8 +7,9 @@ use comparison::random::Random;
 use comparison::worked::{from_hex, S1};
 use comparison::{damage, made_up};
 
-const OF_EMPTY: &str = "traits 0 links 0 marks 0\nopening 1 survivors 1\ncan be met\n";
-const OF_S1: &str = "traits 1 links 1 marks 2\nopening 32 survivors 16\ncan be met\n";
+const OF_EMPTY: &str =
+    "traits 0 fresh 0 some 0 only 0 links 0\nopening 1 survivors 1\ncan be met\n";
+const OF_S1: &str = "traits 1 fresh 0 some 1 only 0 links 1\nopening 32 survivors 16\ncan be met\n";
 
 /// Asserts what `judge --lines` prints of a file, and of it as standard input.
 #[track_caller]

@@ -251,7 +251,8 @@ fn what_cannot_be_asked() {
     }
 }
 
-const S1_LINES: &str = "traits 1 links 1 marks 2\nopening 32 survivors 16\ncan be met\n";
+const S1_LINES: &str =
+    "traits 1 fresh 0 some 1 only 0 links 1\nopening 32 survivors 16\ncan be met\n";
 
 #[test]
 fn options_stand_anywhere() {
@@ -288,6 +289,6 @@ fn operands_that_look_like_options() {
 fn standard_input_and_a_file_of_its_name() {
     let folder = Folder::with(&[("-", S6)]);
     run_on(&folder, &["judge", "--lines", "--", "-"], S1.as_bytes()).is(0, S1_LINES, "");
-    let of_s6 = "traits 1 links 1 marks 3\nopening 144 survivors 85\ncan be met\n";
+    let of_s6 = "traits 1 fresh 1 some 1 only 0 links 1\nopening 144 survivors 85\ncan be met\n";
     run_on(&folder, &["judge", "--lines", "./-"], S1.as_bytes()).is(0, of_s6, "");
 }
