@@ -10,7 +10,7 @@ use lib.Dec.{eqb, ltb}
 use lib.ListN.{length, drop, length-append, length-map}
 use lib.Seq.{take-append-le, drop-append-le, take_at, drop_at}
 use borrow.Author.Tests.{lt-ltb, le-ltb, ltb-true, eqb-true}
-use Rattle.report.specs.Text.{text}
+use Rattle.output.specs.Text.{text}
 use Rattle.queue.specs.declared.slots.SlotAnswer.{SlotAnswer}
 use Rattle.queue.specs.Queue.{Sums, slot_says, slot_first, slot_of, end_first, Said, said, slots_laid, laid, Whole, totals_of}
 use Rattle.queue.specs.Lines.{slot_line, slot_lines, totals_line, last_line, most, printed}

@@ -7,7 +7,7 @@ use lib.Dec.{ltb}
 use borrow.Author.Tests.{ltb-true}
 use Rattle.std.specs.Prelude.{Option, Some, None, IfSome, IfNone}
 use Rattle.std.specs.Bool.{then_some}
-use Rattle.report.specs.Text.{text}
+use Rattle.output.specs.Text.{text}
 use Rattle.queue.specs.declared.slots.SlotAnswer.{SlotAnswer}
 use Rattle.queue.specs.declared.steps.Stepped.{Stepped}
 use Rattle.queue.specs.declared.Turned.{Turned}

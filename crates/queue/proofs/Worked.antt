@@ -11,7 +11,8 @@ use Rattle.syntax.specs.Answers.{limit}
 use Rattle.syntax.specs.Examples.{s1, s2}
 use Rattle.domino.specs.Answers.{judge_says}
 use Rattle.domino.proofs.Worked.{rows_right}
-use Rattle.report.specs.Text.{text, decimal_in, decimal}
+use Rattle.output.specs.Text.{text}
+use Rattle.report.specs.Decimals.{decimal_in, decimal}
 use Rattle.domino.proofs.Judged.{more_words}
 use Rattle.report.proofs.Worked.{set4096, many, lent, judged_at}
 use Rattle.queue.specs.declared.slots.SlotAnswer.{SlotAnswer}

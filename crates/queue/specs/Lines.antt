@@ -1,7 +1,8 @@
 -- What the queue program prints (02, N1).
 use Rattle.std.specs.Prelude.{ℕ, suc, Bool, cond, List, [], ◌∷◌, ◌++◌}
 use Prim.Native.String.{String}
-use Rattle.report.specs.Text.{text, decimal, labelled}
+use Rattle.output.specs.Text.{text}
+use Rattle.report.specs.Decimals.{decimal, labelled}
 use Rattle.queue.specs.declared.slots.SlotAnswer.{SlotAnswer}
 use Rattle.queue.specs.declared.slots.SlotAnswer.TheVariants.{Met, Unmet, Refused}
 use Rattle.queue.specs.Queue.{Sums, said, totals_of}

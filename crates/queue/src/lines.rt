@@ -1,7 +1,8 @@
 // The lines that the program prints.
 ghost use Rattle.std.specs.Prelude.{◌≡◌, ◌++◌, ◌+◌, ◌≤◌, length, IfSome, IfNone};
 ghost use Rattle.arrayvec.specs.ArrayVec.{array_vec_len};
-ghost use Rattle.report.specs.Text.{text, decimal};
+ghost use Rattle.output.specs.Text.{text};
+ghost use Rattle.report.specs.Decimals.{decimal};
 ghost use Rattle.queue.specs.Lines.{slot_line, totals_line};
 
 use crate::slots::SlotAnswer;
@@ -37,7 +38,7 @@ pub(crate) fn slot_line(number: u64, answer: SlotAnswer) -> Line
 }
 
 // The line of the totals.
-#[tactic(auto, unfolding(report::specs::Text::text, crate::specs::Lines::totals_line))]
+#[tactic(auto, unfolding(output::specs::Text::text, crate::specs::Lines::totals_line))]
 fn totals_line(t: Totals) -> Line
     ensures { result.items ≡ totals_line t }
 {

@@ -20,7 +20,8 @@ use Rattle.domino_settling.specs.Settling.{met}
 use Rattle.domino.specs.Answers.{judge_numbers, judge_says, Judges}
 use Rattle.domino.proofs.SpeltOut.{judge_says-read, judge_leaves-refusal}
 use Rattle.domino.proofs.Decides.{unequal}
-use Rattle.report.specs.Text.{text, decimal}
+use Rattle.output.specs.Text.{text}
+use Rattle.report.specs.Decimals.{decimal}
 use Rattle.report.specs.Lines.{refused_line, counts_line, sizes_line, verdict_line, judged_lines, evening_lines, PrintsSum, Reports}
 
 -- the line of counts, put one label and number after another

@@ -3,7 +3,7 @@ use Rattle.std.proofs.Common.{◌≡◌, ℕ, zero, suc, ◌+◌, ◌/◌, ◌%�
 use Rattle.std.specs.Fmt as std
 use Rattle.std.proofs.lemmas.Fmt.{decimal_by_steps}
 use borrow.Author.Tests.{lt-ltb, le-ltb}
-use Rattle.report.specs.Text.{decimal_in, decimal}
+use Rattle.report.specs.Decimals.{decimal_in, decimal}
 
 -- digits in any number of steps that is enough
 abbrev In : ℕ → List ℕ → Type 0

@@ -19,7 +19,8 @@ use Rattle.domino.specs.Answers.{is_short, judge_says}
 use Rattle.domino.specs.Examples.{Row}
 use Rattle.domino.proofs.Judged.{more_words, judge_short}
 use Rattle.domino.proofs.Worked.{rows_right}
-use Rattle.report.specs.Text.{text, decimal_in, decimal}
+use Rattle.output.specs.Text.{text}
+use Rattle.report.specs.Decimals.{decimal_in, decimal}
 use Rattle.report.specs.Lines.{refused_line, counts_line, sizes_line, verdict_line, judged_lines, evening_lines, printed}
 use Rattle.report.proofs.Reporting.{lines_of}
 

@@ -1,5 +1,5 @@
 -- What must be believed:
---   Text   texts and numbers as bytes
---   Lines  the lines of the evening program
-pub mod Text
+--   Decimals  numbers in decimal digits
+--   Lines     the lines of the evening program
+pub mod Decimals
 pub mod Lines

@@ -4,7 +4,8 @@ use Rattle.syntax.specs.Reading.{Reading, refusal, kb, parts_of, read_kb}
 use Rattle.syntax.specs.Counts.{PartCounts, counts_of}
 use Rattle.syntax.specs.Answers.{limit, SumKept}
 use Rattle.domino.specs.Answers.{is_short, judge_says, judge_leaves}
-use Rattle.report.specs.Text.{text, labelled}
+use Rattle.output.specs.Text.{text}
+use Rattle.report.specs.Decimals.{labelled}
 
 -- "A refusal prints one line, `refused 7 at 4`: number, then place."
 unfoldable pub refused_line : ℕ → ℕ → List ℕ

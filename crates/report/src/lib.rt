@@ -5,7 +5,7 @@
 ghost use Rattle.std.specs.Prelude.{◌≡◌, ◌+◌, ◌≤◌, ◌++◌, length};
 ghost use Rattle.arrayvec.specs.ArrayVec.{array_vec_len};
 ghost use Rattle.refusals.specs.Numbers.{number};
-ghost use Rattle.report.specs.Text.{decimal};
+ghost use Rattle.report.specs.Decimals.{decimal};
 ghost use Rattle.syntax.specs.Reading.{read_kb};
 ghost use Rattle.syntax.specs.Answers.{limit};
 ghost use Rattle.tbox.specs.Answers.{part_counts};
@@ -57,7 +57,7 @@ pub(crate) fn put_refusal<const N: usize>(out: &mut ArrayVec<u8, N>, refusal: Re
 }
 
 // The line of the counts of parts by kind and of roles.
-#[tactic(auto, unfolding(crate::specs::Text::text, crate::specs::Lines::counts_line))]
+#[tactic(auto, unfolding(output::specs::Text::text, crate::specs::Lines::counts_line))]
 pub(crate) fn put_counts<const N: usize>(out: &mut ArrayVec<u8, N>, counts: Counts)
     requires { array_vec_len out.old + 134 ≤ N }
     ensures puts { out.new.items ≡ out.old.items ++ counts_line (part_counts counts) counts.roles }
@@ -72,7 +72,7 @@ pub(crate) fn put_counts<const N: usize>(out: &mut ArrayVec<u8, N>, counts: Coun
 }
 
 // The line of the sizes of the initial and the canonical set.
-#[tactic(auto, unfolding(crate::specs::Text::text, crate::specs::Lines::sizes_line))]
+#[tactic(auto, unfolding(output::specs::Text::text, crate::specs::Lines::sizes_line))]
 pub(crate) fn put_sizes<const N: usize>(out: &mut ArrayVec<u8, N>, opening: u64, survivors: u64)
     requires { array_vec_len out.old + 60 ≤ N }
     ensures puts { out.new.items ≡ out.old.items ++ sizes_line opening survivors }

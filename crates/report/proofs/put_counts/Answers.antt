@@ -1,5 +1,5 @@
 -- Five numbers, each behind its label, one after another.
-use Rattle.report.specs.Text.{text}
+use Rattle.output.specs.Text.{text}
 use Rattle.tbox.specs.Answers.{part_counts}
 use Rattle.report.proofs.Reporting.{counts_put}
 use Rattle.report.proofs.put_counts.Goals as goal

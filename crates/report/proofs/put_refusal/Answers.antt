@@ -1,6 +1,6 @@
 -- The pieces of the line, one after another.
 use Rattle.std.proofs.Common.{append_assoc}
-use Rattle.report.specs.Text.{text}
+use Rattle.output.specs.Text.{text}
 use Rattle.report.specs.Lines.{refused_line}
 use Rattle.report.proofs.put_refusal.Goals as goal
 

@@ -1,5 +1,5 @@
 -- The line of either verdict.
-use Rattle.report.specs.Text.{text}
+use Rattle.output.specs.Text.{text}
 use Rattle.report.specs.Lines.{verdict_line}
 use Rattle.report.proofs.put_verdict.Goals as goal
 

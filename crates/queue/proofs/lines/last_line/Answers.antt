@@ -1,5 +1,6 @@
 -- Refusal 15 in place of the totals.
-use Rattle.report.specs.Text.{text, decimal, decimal_in}
+use Rattle.output.specs.Text.{text}
+use Rattle.report.specs.Decimals.{decimal, decimal_in}
 use Rattle.queue.proofs.lines.last_line.Goals as goal
 
 pub returns-in-None-clause-cut_off : goal.returns-in-None-clause-cut_off

@@ -1,6 +1,6 @@
 -- A word and a number, then the end of the line.
 use Rattle.std.proofs.Common.{append_assoc}
-use Rattle.report.specs.Text.{text}
+use Rattle.output.specs.Text.{text}
 use Rattle.queue.proofs.lines.put_value.Goals as goal
 
 pub returns : goal.returns

@@ -1,6 +1,6 @@
 -- The slot's number, then its word and value, by the answer's case.
 use Rattle.std.proofs.Common.{append_assoc}
-use Rattle.report.specs.Text.{text}
+use Rattle.output.specs.Text.{text}
 use Rattle.queue.specs.Lines.{slot_line}
 use Rattle.queue.proofs.lines.slot_line.Goals as goal
 

@@ -1,12 +1,7 @@
--- Texts and numbers as bytes.
+-- Numbers in decimal digits, as bytes.
 use Rattle.std.specs.Prelude.{ℕ, zero, suc, ◌+◌, ◌/◌, ◌%◌, cond, List, [], ◌∷◌, ◌++◌, ltb}
-use Prim.Native.Char.{code}
-use Prim.Native.String.{String, [] as no_more, ◌∷◌ as ◌and_then◌}
-
--- a text in ASCII, a byte a character
-unfoldable pub text : String → List ℕ
-text no_more = []
-text (c and_then s) = code c ∷ text s
+use Prim.Native.String.{String}
+use Rattle.output.specs.Text.{text}
 
 -- n in decimal digits, the first one not 0 save for 0 itself, in steps of a digit, of which n are always enough
 unfoldable pub decimal_in : ℕ → ℕ → List ℕ
