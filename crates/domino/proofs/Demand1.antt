@@ -21,6 +21,7 @@ use Rattle.records.specs.Places.{is_record_fault, is_reference_fault, Placed}
 use Rattle.records.proofs.Places.{place_none}
 use Rattle.syntax.specs.Reading.{Kb, Reading, refusal, kb, parts_of, read_kb, is_read_refusal}
 use Rattle.syntax.specs.Answers.{limit, read_says, list_says, list_leaves, bytes_of, kinds_listed, is_list_refusal}
+use Rattle.syntax.specs.Counts.{count_kind}
 use Rattle.syntax.proofs.Counting.{counts_sum, names_counted, counts_listed}
 use Rattle.std.specs.List.{count_by}
 use Rattle.syntax.proofs.ListBytes.{bytes-long}
@@ -271,10 +272,14 @@ demand_1-listed sheet k e list =
           ap (λ (s : Reading). take c (list_leaves s list)) e
           ∙ rw (le-ltb (length list) c h) (take_at (bytes_of (parts_of k)) (drop c list) c (bytes-long (parts_of k)));
       past = (list-refuses sheet list).past k e;
-      kinds = λ h n.
+      kinds = λ h.
+          let of : (n : ℕ) → count_by (λ b. eqb b n) (kinds_listed (take c (list_leaves (read_kb limit sheet) list))) ≡ count_kind n (parts_of k) =
+          λ n.
           ap (λ (s : Reading). count_by (λ b. eqb b n) (kinds_listed (take c (list_leaves s list)))) e
           ∙ rw (le-ltb (length list) c h)
-          (rw (take_at (bytes_of (parts_of k)) (drop c list) c (bytes-long (parts_of k))) (counts_listed n (parts_of k)));
+          (rw (take_at (bytes_of (parts_of k)) (drop c list) c (bytes-long (parts_of k))) (counts_listed n (parts_of k)))
+          in
+          ap read_says e ∙ rw (of 0, of 1, of 2, of 3) refl;
     }
 
 -- ---- enough words

@@ -8,7 +8,7 @@ use Rattle.elimination.specs.Elimination.{Largest}
 use Rattle.elimination.specs.Calls.{Call, strike, settle, run_with, Passes}
 use Rattle.records.specs.Places.{Placed}
 use Rattle.syntax.specs.Reading.{Kb, Reading, refusal, kb, parts_of, read_kb, is_read_refusal}
-use Rattle.syntax.specs.Counts.{PartCounts, counts_of, count_kind, sum_of}
+use Rattle.syntax.specs.Counts.{PartCounts, counts_of, sum_of}
 use Rattle.syntax.specs.Answers.{limit, read_says, list_says, list_leaves, bytes_of, kinds_listed, is_list_refusal}
 use Rattle.semantics.specs.Interpretations.{Interpretation, models}
 use Rattle.semantics.specs.Dominoes.{Met, Domino, number, left_of, right_of_lem, inverse, numbered}
@@ -74,9 +74,10 @@ pub record Demand1Listed (s : Reading) (k : Kb) (list : List ℕ) : Type 0 where
   pub lists : 3 * length (parts_of k) ≤ length list → list_says s list ≡ 0 ∷ 0 ∷ length (parts_of k) ∷ []
   pub bytes : 3 * length (parts_of k) ≤ length list → take (3 * length (parts_of k)) (list_leaves s list) ≡ bytes_of (parts_of k)
   pub past : drop (3 * length (parts_of k)) (list_leaves s list) ≡ drop (3 * length (parts_of k)) list
-  -- each count is "the number of marks of that kind that the mark list holds"
-  pub kinds : 3 * length (parts_of k) ≤ length list → (n : ℕ)
-      → count_by (λ b. eqb b n) (kinds_listed (take (3 * length (parts_of k)) (list_leaves s list))) ≡ count_kind n (parts_of k)
+  -- 02, N9: each count "the number of marks of that kind that the mark list holds": read's answer, by the bytes that list marks leaves
+  pub kinds : 3 * length (parts_of k) ≤ length list →
+      let of : ℕ → ℕ = λ n. count_by (λ b. eqb b n) (kinds_listed (take (3 * length (parts_of k)) (list_leaves s list))) in
+      read_says s ≡ 0 ∷ 0 ∷ of 0 ∷ of 1 ∷ of 2 ∷ of 3 ∷ k.roles ∷ []
 
 -- ---- for a sheet that is read as s, its view v, and words ws that are enough
 

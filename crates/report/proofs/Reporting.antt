@@ -11,18 +11,19 @@ use Rattle.refusals.specs.Numbers.{number}
 use Rattle.refusals.specs.declared.Refusal.{Refusal}
 use Rattle.tbox.specs.declared.Counts.{Counts}
 use Rattle.domino_settling.specs.declared.judging.Judgement.{Judgement}
-use Rattle.syntax.specs.Reading.{Reading, refusal, kb, parts_of}
+use lib.ListN.{replicate}
+use Rattle.syntax.specs.Reading.{Reading, refusal, kb, parts_of, read_kb}
 use Rattle.tbox.specs.Answers.{read_numbers, part_counts}
 use Rattle.syntax.specs.Counts.{PartCounts, counts_of}
 use Rattle.syntax.proofs.Counting.{same_counts, counts_sum}
-use Rattle.syntax.specs.Answers.{counts_say, read_says}
+use Rattle.syntax.specs.Answers.{limit, counts_say, read_says}
 use Rattle.domino_settling.specs.Settling.{met}
 use Rattle.domino.specs.Answers.{judge_numbers, judge_says, Judges}
 use Rattle.domino.proofs.SpeltOut.{judge_says-read, judge_leaves-refusal}
 use Rattle.domino.proofs.Decides.{unequal}
 use Rattle.output.specs.Text.{text}
 use Rattle.report.specs.Decimals.{decimal}
-use Rattle.report.specs.Lines.{refused_line, counts_line, sizes_line, verdict_line, judged_lines, evening_lines, PrintsSum, Reports}
+use Rattle.report.specs.Lines.{refused_line, counts_line, sizes_line, verdict_line, judged_lines, evening_lines, PrintsSum, Reports, printed}
 
 -- the line of counts, put one label and number after another
 pub counts_put : (o : List ℕ) (n : PartCounts) (l : ℕ) →
@@ -59,6 +60,11 @@ prints_sum (kb k) ws before after e =
     let says = ap (judged_lines n k.roles) (rw q at (judge_says-read ws k)) ∙ says_done n k.roles _ _ _ in
     (n, _, e ∙ ap (λ l. before ++ l) says, counts_sum (parts_of k))
 
+-- of what the evening program prints
+pub printed-sum : (sheet : List ℕ) → PrintsSum (read_kb limit sheet) (replicate 4096 0) [] (printed sheet)
+unfolding printed
+printed-sum sheet = prints_sum (read_kb limit sheet) (replicate 4096 0) [] (printed sheet) refl
+
 -- read refuses
 refused : (s : Reading) (ws before after : List ℕ) (n p : ℕ) → n ∷ p ∷ [] ≡ read_says s → after ≡ before ++ refused_line n p
     → Reports s ws ws before after
@@ -68,7 +74,7 @@ refused (refusal m q) ws before after n p x puts =
     record { lines = rw (i, j) puts; set = sym (judge_leaves-refusal ws m q); sum = tt }
 refused (kb k) ws before after n p x puts = unequal (n ∷ p ∷ []) _ x (omega arith)
 
--- read answers its counts, and judge answers
+-- what is said tells the counts and L
 same_said : (m n : PartCounts) (k l : ℕ) → counts_say m k ≡ counts_say n l → (m ≡ n) × (k ≡ l)
 same_said m n k l e =
     let t : m.names ≡ n.names = cc in
@@ -77,6 +83,7 @@ same_said m n k l e =
     let u : m.universals ≡ n.universals = cc in
     (same_counts t f x u, cc)
 
+-- read answers its counts, and judge answers
 pub lines_of : (s : Reading) (ws : List ℕ) (n : PartCounts) (l : ℕ) → counts_say n l ≡ read_says s → judged_lines n l (judge_says s ws) ≡ evening_lines s ws
 unfolding read_says evening_lines
 lines_of (refusal m q) ws n l x = unequal (m ∷ q ∷ []) (counts_say n l) (sym x) (omega arith)

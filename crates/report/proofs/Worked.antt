@@ -1,7 +1,7 @@
--- What the evening program prints for S1, S2 and a refused sheet is what document 01 has, byte for byte; and with 4,096 words
+-- What the evening program prints for S1, S2, S6 and a refused sheet is what documents 01 and 02 have, byte for byte; and with 4,096 words
 -- "c + L of 10 to 12 is refused with 10".
 use Prim.Native.Nat.{ℕ, ◌+◌, ◌*◌, ◌≤◌, ◌<◌}
-use mathlib.Core.Path.{◌≡◌, sym, ap, ◌∙◌}
+use mathlib.Core.Path.{◌≡◌, refl, sym, ap, ◌∙◌}
 use mathlib.Core.Bool.{false}
 use mathlib.Core.List.{List, [], ◌∷◌}
 use native.Mathlib.Nat.{pow-le-pow_right}
@@ -11,7 +11,7 @@ use borrow.Author.Tests.{lt-ltb, le-ltb}
 use Rattle.syntax.specs.Reading.{Kb, Reading, refusal, kb, parts_of, read_kb}
 use Rattle.syntax.specs.Counts.{PartCounts}
 use Rattle.syntax.specs.Answers.{limit, counts_say, read_says}
-use Rattle.syntax.specs.Examples.{Row as ReadRow, s1, s2}
+use Rattle.syntax.specs.Examples.{Row as ReadRow, s1, s2, s6}
 use Rattle.syntax.proofs.Worked.{rows_right as reads-right}
 use Rattle.semantics.specs.Views.{kb_view}
 use Rattle.semantics.specs.Conditions.{held}
@@ -30,11 +30,14 @@ set4096 = replicate 4096 0
 pub many : length set4096 ≡ 4096
 many = length-replicate {A = ℕ} 4096 0
 
--- ---- S1, S2
+-- ---- S1, S2, S6
 
--- the words lent in the table of worked sheets
+-- the words lent in the table of worked sheets: to S1 and S2, and to S6
 abbrev pub lent : List ℕ
 lent = 0xffffffffffffffff ∷ 5 ∷ []
+
+abbrev lent6 : List ℕ
+lent6 = 0xffffffffffffffff ∷ 0xffffffffffffffff ∷ 0xffffffffffffffff ∷ 0xffffffffffffffff ∷ 5 ∷ []
 
 read_at : ℕ → List ReadRow → List ℕ
 read_at i rs = (get_or rs i (record { sheet = []; read = []; lent = []; listed = []; left = [] })).read
@@ -42,25 +45,33 @@ read_at i rs = (get_or rs i (record { sheet = []; read = []; lent = []; listed =
 unfoldable pub judged_at : ℕ → List Row → List ℕ
 judged_at i rs = (get_or rs i (record { sheet = []; reads = []; lent = []; opens = []; opened = []; settles = []; judges = []; judged = [] })).judges
 
-prints : (sheet : List ℕ) (n : PartCounts) (l o s m : ℕ) → read_says (read_kb limit sheet) ≡ counts_say n l
-    → judge_says (read_kb limit sheet) lent ≡ 0 ∷ 0 ∷ o ∷ s ∷ m ∷ [] → printed sheet ≡ judged_lines n l (0 ∷ 0 ∷ o ∷ s ∷ m ∷ [])
+prints : (sheet ws : List ℕ) (n : PartCounts) (l o s m : ℕ) → length ws ≤ 4096 → read_says (read_kb limit sheet) ≡ counts_say n l
+    → judge_says (read_kb limit sheet) ws ≡ 0 ∷ 0 ∷ o ∷ s ∷ m ∷ [] → printed sheet ≡ judged_lines n l (0 ∷ 0 ∷ o ∷ s ∷ m ∷ [])
 unfolding printed
-prints sheet n l o s m reads judges =
+prints sheet ws n l o s m few reads judges =
     sym (lines_of (read_kb limit sheet) set4096 n l (sym reads))
-    ∙ ap (judged_lines n l) (more_words (read_kb limit sheet) lent set4096 (omega (arith, many)) (ap length judges) ∙ judges)
+    ∙ ap (judged_lines n l) (more_words (read_kb limit sheet) ws set4096 (omega (arith, many, few)) (ap length judges) ∙ judges)
 
--- a name and an existential
-abbrev one_some : PartCounts
-one_some = record { names = 1; fresh = 0; existentials = 1; universals = 0 }
+abbrev counts : ℕ → ℕ → ℕ → ℕ → PartCounts
+counts t f e u = record { names = t; fresh = f; existentials = e; universals = u }
 
 -- "For sheet S1 below it prints exactly"; 02, N9: "`traits 1 fresh 0 some 1 only 0 links 1` for S1"
 pub s1-printed : printed s1 ≡ text "traits 1 fresh 0 some 1 only 0 links 1\nopening 32 survivors 16\ncan be met\n"
 unfolding read_at judged_at judged_lines counts_line sizes_line verdict_line text decimal decimal_in
-s1-printed = prints s1 one_some 1 32 16 1 (ap (read_at 1) reads-right) (ap (judged_at 2) rows_right)
+s1-printed = prints s1 lent (counts 1 0 1 0) 1 32 16 1 (omega arith) (ap (read_at 1) reads-right) (ap (judged_at 2) rows_right)
 
 pub s2-printed : printed s2 ≡ text "traits 1 fresh 0 some 1 only 0 links 1\nopening 16 survivors 0\ncannot be met\n"
 unfolding read_at judged_at judged_lines counts_line sizes_line verdict_line text decimal decimal_in
-s2-printed = prints s2 one_some 1 16 0 0 (ap (read_at 3) reads-right) (ap (judged_at 4) rows_right)
+s2-printed = prints s2 lent (counts 1 0 1 0) 1 16 0 0 (omega arith) (ap (read_at 3) reads-right) (ap (judged_at 4) rows_right)
+
+pub s6-printed : printed s6 ≡ text "traits 1 fresh 1 some 1 only 0 links 1\nopening 144 survivors 85\ncan be met\n"
+unfolding read_at judged_at judged_lines counts_line sizes_line verdict_line text decimal decimal_in
+s6-printed = prints s6 lent6 (counts 1 1 1 0) 1 144 85 1 (omega arith) (ap (read_at 7) reads-right) (ap (judged_at 9) rows_right)
+
+-- each number is behind its own label: no sheet with so few marks and links has five counts that all differ
+pub lines_right : judged_lines (counts 1 2 3 4) 5 (0 ∷ 0 ∷ 7 ∷ 6 ∷ 1 ∷ []) ≡ text "traits 1 fresh 2 some 3 only 4 links 5\nopening 7 survivors 6\ncan be met\n"
+unfolding judged_lines counts_line sizes_line verdict_line text decimal decimal_in
+lines_right = refl
 
 -- ---- refusals
 

@@ -37,13 +37,13 @@ unfoldable pub evening_lines : Reading → List ℕ → List ℕ
 evening_lines (refusal n p) ws = refused_line n p
 evening_lines (kb k) ws = judged_lines (counts_of (parts_of k)) k.roles (judge_says (kb k) ws)
 
--- 02, N9: "every call passing them on must keep their sum equal to c": the lines begin with four counts whose sum it is
+-- 02, N9: "every call passing them on must keep their sum equal to c": the lines begin with that of four counts whose sum is c
 abbrev pub PrintsSum : Reading → List ℕ → List ℕ → List ℕ → Type 0
 PrintsSum (refusal n p) words before after = Unit
 PrintsSum (kb k) words before after =
     is_short k words ≡ false → (n : PartCounts) × (rest : List ℕ) × (after ≡ before ++ (counts_line n k.roles ++ rest)) × SumKept (kb k) n
 
--- the lines are put behind what the buffer held, and the words are as judge leaves them
+-- the lines are put behind what the buffer held, the words are as judge leaves them, and the counts that are put come to c
 pub record Reports (s : Reading) (words left before after : List ℕ) : Type 0 where
   pub lines : after ≡ before ++ evening_lines s words
   pub set : left ≡ judge_leaves s words

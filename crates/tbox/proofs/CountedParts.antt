@@ -12,7 +12,7 @@ use Rattle.tbox.specs.Answers.{part_counts}
 use Rattle.tbox.specs.CountedParts.{CountsParts}
 
 module _ (os : List Origin) (i L : ℕ) (n : Counts) (c : CountsParts (take i os) L n) (l : i < length os) where
-  -- no more are counted than there are
+  -- as many are counted as were gone through
   pub counted_few : sum_of (part_counts n) ≡ i
   counted_few = ap sum_of (c.parts []) ∙ counts_sum (parts_in [] (take i os)) ∙ parts_length [] 0 (take i os) ∙ length-take-le i os (omega arith)
 

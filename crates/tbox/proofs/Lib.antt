@@ -1,7 +1,7 @@
 pub mod BaseTables
+pub mod CountedParts
 pub mod InclusionTruth
 pub mod KindNumbers
-pub mod CountedParts
 pub mod PartBytes
 pub mod PartLists
 pub mod PlacesFound

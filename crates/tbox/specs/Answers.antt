@@ -7,17 +7,18 @@ use Rattle.syntax.specs.Reading.{Reading}
 use Rattle.syntax.specs.Counts.{PartCounts}
 use Rattle.syntax.specs.Answers.{SumKept, list_leaves, list_says}
 
--- document 01's number and values for each case of an answer: the refusal's number (0 for none), its place, then the values
+-- the documents' number and values for each case of an answer: the refusal's number (0 for none), its place, then the values
 abbrev pub count_values : Counts → List ℕ
 count_values n = n.names ∷ n.fresh ∷ n.existentials ∷ n.universals ∷ n.roles ∷ []
 
 abbrev pub read_numbers : Result Counts Refusal → List ℕ
 read_numbers = numbers_of count_values
 
--- the counts of parts, and what holds of those that are answered
+-- the counts of parts
 abbrev pub part_counts : Counts → PartCounts
 part_counts n = record { names = n.names; fresh = n.fresh; existentials = n.existentials; universals = n.universals }
 
+-- 02, N9: "every call passing them on must keep their sum equal to c": of what read answers
 abbrev pub AnswersSum : Reading → Result Counts Refusal → Type 0
 AnswersSum s (Ok n) = SumKept s (part_counts n)
 AnswersSum s (Err r) = Unit

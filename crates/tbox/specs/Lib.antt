@@ -1,5 +1,5 @@
 -- What must be believed:
---   Answers            document 01's numbers for the answers of read and list marks
+--   Answers            the documents' numbers for the answers of read and list marks
 --   Promise            the flattened knowledge base as plain data, for the layers above
 -- What functions tell each other:
 --   Admission          a sheet read into its records and parts, or refused

@@ -21,8 +21,8 @@ pub mod loading;
 mod places;
 mod truth;
 
-// How many parts are names, fresh names, existentials and universals, and how many roles there are. T is the first of these, L the
-// last, and c the sum of the four of parts.
+// How many parts are names, fresh names, existentials and universals, and how many roles there are: T is the first, L the last, and c
+// the sum of the first four.
 #[derive(Clone, Copy, PartialEq, Eq)]
 pub struct Counts {
     pub names: usize,

@@ -6,7 +6,6 @@ mod text;
 
 use crate::answer::{judged, status, Answer, Found, Totals, Words};
 use crate::arguments::{Form, Judge};
-use crate::counts;
 use crate::json::Object;
 use crate::names::Names;
 use crate::picture::picture;
@@ -16,6 +15,7 @@ use crate::say::{say, say_all};
 use crate::sheet::{about, refused};
 use crate::source::{name, Source};
 use crate::status::Status;
+use crate::summary;
 use std::ffi::{OsStr, OsString};
 use std::io::{self, IsTerminal, Stderr, Write};
 use std::num::NonZeroUsize;
@@ -166,7 +166,7 @@ fn object(source: &Source, answer: &Answer) -> Object {
         Err(refusal) => return refused(&source.name, &source.bytes, refusal),
     };
     let object = about(&source.name, if judgement.met { "met" } else { "unmet" });
-    counts::put(*counts, object)
+    summary::put(*counts, object)
         .number("opening", judgement.opening)
         .number("survivors", judgement.survivors)
 }

@@ -4,7 +4,6 @@
 mod answer;
 mod arguments;
 mod count;
-mod counts;
 mod export;
 mod help;
 mod hex;
@@ -24,6 +23,7 @@ mod show;
 mod source;
 mod status;
 mod strike;
+mod summary;
 mod tree;
 
 use arguments::Question;

@@ -81,7 +81,7 @@ impl Counts {
     }
 }
 
-/// Checks a sheet and counts its concept names, roles and parts.
+/// Checks a sheet and counts its parts by kind, and its roles.
 ///
 /// # Errors
 ///

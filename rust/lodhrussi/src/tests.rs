@@ -11,6 +11,7 @@ fn of_kinds([traits, fresh, some, only]: [u64; 4]) -> Counts {
         fresh,
         some,
         only,
+        // A digit that would show in the sum.
         links: 50_000,
     }
 }
@@ -37,7 +38,8 @@ fn marks_stop_at_the_largest_number() {
     ] {
         let counts = of_kinds(kinds);
         assert_eq!(counts.marks(), MOST, "{counts:?}");
-        assert_eq!(words_needed(counts), usize::MAX, "{counts:?}");
+        let without_links = Counts { links: 0, ..counts };
+        assert_eq!(words_needed(without_links), usize::MAX, "{counts:?}");
     }
 }
 

@@ -85,7 +85,7 @@ impl Parts {
     }
 
     /// How many there are of each kind, beside so many roles.
-    pub(crate) fn counts_beside(&self, roles: u8) -> Counts {
+    pub(crate) fn counts(&self, roles: u8) -> Counts {
         let mut counts = Counts {
             links: u64::from(roles),
             ..Counts::default()

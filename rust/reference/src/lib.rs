@@ -62,7 +62,7 @@ impl Counts {
     }
 }
 
-/// Checks a sheet and counts its concept names, roles and parts.
+/// Checks a sheet and counts its parts by kind, and its roles.
 ///
 /// # Errors
 ///
@@ -75,7 +75,7 @@ fn read_by(sheet: &[u8], sharing: Sharing) -> Result<Counts, Refusal> {
     let mut kb = Kb::empty();
     kb.read(sheet)?;
     let parts = flatten(&kb, sharing)?;
-    Ok(parts.counts_beside(kb.roles()))
+    Ok(parts.counts(kb.roles()))
 }
 
 /// Writes three bytes for each part and answers the number of parts.

@@ -2,9 +2,9 @@
 
 use crate::answer::{Answer, Found, Totals};
 use crate::count::count;
-use crate::counts;
 use crate::picture;
 use crate::source::Source;
+use crate::summary;
 use lodhrussi::Judgement;
 
 /// The verdict, the counts and a sentence.
@@ -13,7 +13,7 @@ pub fn whole(found: &Found) -> String {
     format!(
         "{}\n{}; opening {}, survivors {}\n{}\n",
         verdict(judgement),
-        counts::phrase(*counts),
+        summary::phrase(*counts),
         judgement.opening,
         judgement.survivors,
         sentence(judgement)

@@ -1,10 +1,10 @@
 //! A sheet for programs.
 
 use super::{nots, Listing, Row, MOST_BYTES};
-use crate::counts;
 use crate::json::Object;
 use crate::parts::Part;
 use crate::sheet::Sheet;
+use crate::summary;
 use lodhrussi::records::Record;
 use lodhrussi::Counts;
 
@@ -15,7 +15,7 @@ impl Listing<'_> {
         let parts = parts.map(|(number, part)| part_object(number, part, self.sheet));
         let object = self.with_records(self.sheet.object("shown"));
         let object = object.texts("rules", self.rules());
-        counts::put(counts, object).objects("mark_list", parts)
+        summary::put(counts, object).objects("mark_list", parts)
     }
 
     /// An object with the records put in, and the sheet's length if it is known.

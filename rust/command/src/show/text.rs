@@ -2,9 +2,9 @@
 
 use super::{nots, Listing, Row, MOST_BYTES};
 use crate::count::count;
-use crate::counts;
 use crate::parts::Part;
 use crate::sheet::Sheet;
+use crate::summary;
 use lodhrussi::records::Record;
 use lodhrussi::Counts;
 
@@ -19,7 +19,7 @@ impl Listing<'_> {
         format!(
             "{}\n{rules}\n{}\n{}",
             self.records_text(),
-            counts::phrase(counts),
+            summary::phrase(counts),
             parts_text(parts, self.sheet)
         )
     }

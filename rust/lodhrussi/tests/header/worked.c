@@ -31,7 +31,7 @@ static void read_sheet(const uint8_t *sheet, size_t n)
     line("read", out, 7);
 }
 
-/* Sheets with no trait and with one: all counts of the first differ, the second has all kinds of marks. */
+/* S1; a sheet with no trait, whose numbers all differ; and one with a trait, which has all kinds of marks. */
 static void counts(void)
 {
     static const uint8_t no_trait[] = {
