@@ -22,6 +22,7 @@ use Rattle.domino.proofs.Worked.{rows_right}
 use Rattle.output.specs.Text.{text}
 use Rattle.report.specs.Decimals.{decimal_in, decimal}
 use Rattle.report.specs.Lines.{refused_line, counts_line, sizes_line, verdict_line, judged_lines, evening_lines, printed}
+use Rattle.syntax.proofs.Counting.{counts}
 use Rattle.report.proofs.Reporting.{lines_of}
 
 abbrev pub set4096 : List ℕ
@@ -51,9 +52,6 @@ unfolding printed
 prints sheet ws n l o s m few reads judges =
     sym (lines_of (read_kb limit sheet) set4096 n l (sym reads))
     ∙ ap (judged_lines n l) (more_words (read_kb limit sheet) ws set4096 (omega (arith, many, few)) (ap length judges) ∙ judges)
-
-abbrev counts : ℕ → ℕ → ℕ → ℕ → PartCounts
-counts t f e u = record { names = t; fresh = f; existentials = e; universals = u }
 
 -- "For sheet S1 below it prints exactly"; 02, N9: "`traits 1 fresh 0 some 1 only 0 links 1` for S1"
 pub s1-printed : printed s1 ≡ text "traits 1 fresh 0 some 1 only 0 links 1\nopening 32 survivors 16\ncan be met\n"

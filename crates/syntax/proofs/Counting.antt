@@ -49,7 +49,7 @@ with_part (fresh_p g c) n = record { names = n.names; fresh = n.fresh + 1; exist
 with_part (exists_p g u f) n = record { names = n.names; fresh = n.fresh; existentials = n.existentials + 1; universals = n.universals }
 with_part (forall_p g u f) n = record { names = n.names; fresh = n.fresh; existentials = n.existentials; universals = n.universals + 1 }
 
-abbrev counts : ℕ → ℕ → ℕ → ℕ → PartCounts
+abbrev pub counts : ℕ → ℕ → ℕ → ℕ → PartCounts
 counts t f e u = record { names = t; fresh = f; existentials = e; universals = u }
 
 pub same_counts : {t t' f f' e e' u u' : ℕ} → t ≡ t' → f ≡ f' → e ≡ e' → u ≡ u' → counts t f e u ≡ counts t' f' e' u'

@@ -13,8 +13,8 @@ use Rattle.tbox.specs.CountedParts.{CountsParts}
 
 module _ (os : List Origin) (i L : ℕ) (n : Counts) (c : CountsParts (take i os) L n) (l : i < length os) where
   -- as many are counted as were gone through
-  pub counted_few : sum_of (part_counts n) ≡ i
-  counted_few = ap sum_of (c.parts []) ∙ counts_sum (parts_in [] (take i os)) ∙ parts_length [] 0 (take i os) ∙ length-take-le i os (omega arith)
+  pub counted_all : sum_of (part_counts n) ≡ i
+  counted_all = ap sum_of (c.parts []) ∙ counts_sum (parts_in [] (take i os)) ∙ parts_length [] 0 (take i os) ∙ length-take-le i os (omega arith)
 
   -- the next one is counted
   pub counted_more : (m : Counts) (d o : Origin) → get_or os i d ≡ o →

@@ -1,8 +1,8 @@
--- A part more is one of its kind more; there are no more than the list has.
+-- A part more is one of its kind more; the sum is how far the loop has come.
 use Rattle.std.proofs.Common.{refl, ap, ◌∙◌, arith}
 use Rattle.flattening.specs.Origins.{parts_from}
 use Rattle.flattening.specs.declared.parts.Origin.TheVariants.{Restriction}
-use Rattle.tbox.proofs.CountedParts.{counted_few, counted_more}
+use Rattle.tbox.proofs.CountedParts.{counted_all, counted_more}
 use Rattle.tbox.proofs.count_parts.Goals as goal
 use Rattle.tbox.proofs.count_parts.Goals.{in-Name, in-Fresh, in-Restriction-Exists-default-default, in-Restriction-Forall-default-default}
 
@@ -11,16 +11,16 @@ unfolding parts_from
 loop-origin-init c = record { parts = λ es. refl; roles = refl }
 
 pub overflow_add-counts : goal.overflow_add-counts
-overflow_add-counts c = omega (arith, counted_few _ _ _ _ c.loop-origin.invariant c.loop-origin-test.true)
+overflow_add-counts c = omega (arith, counted_all _ _ _ _ c.loop-origin.invariant c.loop-origin-test.true)
 
 pub overflow_add-counts-in-Fresh : goal.overflow_add-counts-in-Fresh
-overflow_add-counts-in-Fresh c = omega (arith, counted_few _ _ _ _ c.loop-origin.invariant c.loop-origin-test.true)
+overflow_add-counts-in-Fresh c = omega (arith, counted_all _ _ _ _ c.loop-origin.invariant c.loop-origin-test.true)
 
 pub overflow_add-counts-in-Restriction-Exists-default-default : goal.overflow_add-counts-in-Restriction-Exists-default-default
-overflow_add-counts-in-Restriction-Exists-default-default c = omega (arith, counted_few _ _ _ _ c.loop-origin.invariant c.loop-origin-test.true)
+overflow_add-counts-in-Restriction-Exists-default-default c = omega (arith, counted_all _ _ _ _ c.loop-origin.invariant c.loop-origin-test.true)
 
 pub overflow_add-counts-in-Restriction-Forall-default-default : goal.overflow_add-counts-in-Restriction-Forall-default-default
-overflow_add-counts-in-Restriction-Forall-default-default c = omega (arith, counted_few _ _ _ _ c.loop-origin.invariant c.loop-origin-test.true)
+overflow_add-counts-in-Restriction-Forall-default-default c = omega (arith, counted_all _ _ _ _ c.loop-origin.invariant c.loop-origin-test.true)
 
 pub loop-origin-preserved : goal.loop-origin-preserved
 loop-origin-preserved c =
