@@ -66,7 +66,7 @@ pub s6-printed : printed s6 ≡ text "traits 1 fresh 1 some 1 only 0 links 1\nop
 unfolding read_at judged_at judged_lines counts_line sizes_line verdict_line text decimal decimal_in
 s6-printed = prints s6 lent6 (counts 1 1 1 0) 1 144 85 1 (omega arith) (ap (read_at 7) reads-right) (ap (judged_at 9) rows_right)
 
--- each number is behind its own label: no sheet with so few marks and links has five counts that all differ
+-- each number is behind its own label. Five that all differ come to 10 at least, more than c + L of a sheet that is judged here.
 pub lines_right : judged_lines (counts 1 2 3 4) 5 (0 ∷ 0 ∷ 7 ∷ 6 ∷ 1 ∷ []) ≡ text "traits 1 fresh 2 some 3 only 4 links 5\nopening 7 survivors 6\ncan be met\n"
 unfolding judged_lines counts_line sizes_line verdict_line text decimal decimal_in
 lines_right = refl
