@@ -1,13 +1,13 @@
 -- Laws of the word of a set: its bits are the set, and the operations on words are those on sets.
 use mathlib.Core.Path.{◌≡◌, refl, sym, ap, ap₂, subst, ◌∙◌}
 use mathlib.Core.Bool.{Bool, true, false, cond, not, ◌&&◌, ◌||◌}
-use Prim.Native.Nat.{ℕ, zero, suc, ◌+◌, ◌-◌, ◌*◌, ◌/◌, ◌%◌, ◌^◌, ◌≤◌, ◌<◌, min}
+use Prim.Native.Nat.{ℕ, zero, suc, ◌+◌, ◌-◌, ◌*◌, ◌/◌, ◌%◌, ◌^◌, ◌≤◌, ◌<◌, min, max}
 use native.Mathlib.Nat.{mod-lt, pow-suc, le_refl, lt_of_lt_of_le, div-eq_of_lt}
 use native.Mathlib.Decide.{ℕ_discrete}
 use native.Mathlib.Omega.{arith}
 use lib.Dec.{eqb, ltb, ltb→lt, nltb→le}
 use lib.Pow.{pow_pos, pow_mono, high, low, split, field, mod-mod-pow, shr_lt, shr-shr}
-use lib.Bits.{bit_and, bit_or, and_block, or_block, and_shr, and_step}
+use lib.Bits.{bit_and, bit_or, and_block, or_block, and_shr, and_step, or_shr, or_step}
 use borrow.Author.Tests.{lt-ltb, le-ltb}
 use Rattle.bitset.specs.Bits.{bit, word, word_at}
 use Rattle.bitset.proofs.Facts.{either, and_in, and_out}
@@ -226,3 +226,33 @@ low_bits w n k =
     (λ t.
     let l : n ≤ k = nltb→le k n t in
     bit_past n (w % 2 ^ n) k (mod-lt w (pow_pos n)) l ∙ sym (and_out (bit w k) (ltb k n) (le-ltb k n l)))
+
+either_bit : (x y : ℕ) → x < 2 → y < 2 → eqb (max x y) 1 ≡ (eqb x 1 || eqb y 1)
+either_bit zero y h k = let e : max 0 y ≡ y = omega arith in ap (λ (z : ℕ). eqb z 1) e
+either_bit (suc zero) y h k = let e : max 1 y ≡ 1 = omega arith in ap (λ (z : ℕ). eqb z 1) e
+either_bit (suc (suc x)) y h k = absurd (omega arith)
+
+pub bit_or_lem : (x y k : ℕ) → bit (bit_or x y) k ≡ (bit x k || bit y k)
+bit_or_lem x y k =
+    let e : bit_or x y / 2 ^ k % 2 ≡ max (x / 2 ^ k % 2) (y / 2 ^ k % 2) =
+    rw (or_shr x y k) (omega (arith, or_step (x / 2 ^ k) (y / 2 ^ k))) in
+    ap (λ (z : ℕ). eqb z 1) e ∙ either_bit (x / 2 ^ k % 2) (y / 2 ^ k % 2) (omega arith) (omega arith)
+
+-- the bits of the complement of a number of n bits
+pub bit_not : (n x k : ℕ) → x < 2 ^ n → k < n → bit (2 ^ n - 1 - x) k ≡ not (bit x k)
+bit_not n x k h l =
+    ap (λ (y : ℕ). bit (2 ^ n - 1 - y) k) (sym (word_bits n x h))
+    ∙ ap (λ (y : ℕ). bit y k) (word-not n (bit x))
+    ∙ bit_word n (λ k. not (bit x k)) k l
+
+-- a set with nothing from n on has the same word in more bits
+pub word_past : (n m : ℕ) (D : ℕ → Bool) → n ≤ m → ((k : ℕ) → n ≤ k → k < m → D k ≡ false) → word m D ≡ word n D
+unfolding word
+word_past n zero D h e = let i : n ≡ 0 = omega arith in rw i refl
+word_past n (suc m) D h e = go (ℕ_discrete n (suc m)) (word_past n m D)
+  where
+    go : Dec (n ≡ suc m) → (n ≤ m → ((k : ℕ) → n ≤ k → k < m → D k ≡ false) → word m D ≡ word n D) → word (suc m) D ≡ word n D
+    go (yes q) r = rw q refl
+    go (no q) r =
+        let out : cond (D m) (2 ^ m) 0 ≡ 0 = ap (λ (b : Bool). cond b (2 ^ m) 0) (e m (omega (arith, q)) (omega arith)) in
+        omega (arith, out, r (omega (arith, q)) (λ k i j. e k i (omega arith)))

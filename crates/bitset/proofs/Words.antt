@@ -1,20 +1,20 @@
--- Laws of sets in lists of words: the words of a set have its members, a list of words is that of its members, and one number is taken out.
+-- Laws of sets in lists of words: the words of a set have its members, a list of words is that of its members, and one number is taken out or put in.
 use mathlib.Core.Path.{◌≡◌, refl, sym, ap, ap₂, subst, ◌∙◌}
-use mathlib.Core.Bool.{Bool, false, cond, not, ◌&&◌, and-true}
+use mathlib.Core.Bool.{Bool, false, cond, not, ◌&&◌, ◌||◌, and-true, or-false}
 use mathlib.Core.List.{List, [], ◌∷◌, ◌++◌}
 use Prim.Native.Nat.{ℕ, zero, suc, ◌+◌, ◌-◌, ◌*◌, ◌/◌, ◌%◌, ◌^◌, ◌≤◌, ◌<◌}
 use native.Mathlib.Nat.{mod-eq_of_lt}
 use native.Mathlib.Decide.{ℕ_discrete}
 use native.Mathlib.Omega.{arith}
 use lib.Dec.{T, eqb, ltb, ltb→lt, lt→ltb}
-use lib.Bits.{bit_and}
+use lib.Bits.{bit_and, bit_or}
 use lib.Pow.{pow-lt}
 use lib.ListN.{get_or, set, take, drop, length, length-set}
 use lib.Seq.{get_or-set_same, get_or-set_other, get_or-take, length-take-le}
 use borrow.Author.Tests.{eq-eqb, ne_eqb}
-use Rattle.bitset.specs.Bits.{Set, bit, word, word_at, look, words_from, words, are_words, without, cleared}
+use Rattle.bitset.specs.Bits.{Set, bit, word, word_at, look, words_from, words, are_words, without, with, cleared, inserted}
 use Rattle.bitset.proofs.Facts.{and_left, and_right, and_both}
-use Rattle.bitset.proofs.Laws.{word_lt, word_ext, word-not, word_and, word_none, bit_word, word_bits, bit_word_at, word_at_lt, word_at_same}
+use Rattle.bitset.proofs.Laws.{word_lt, word_ext, word-not, word_and, word_or, word_none, bit_word, word_bits, bit_word_at, word_at_lt, word_at_same}
 
 -- ---- one digit of a word
 
@@ -44,6 +44,11 @@ pub word_clear : (n w j : ℕ) → w < 2 ^ n → j < n → bit_and w (2 ^ n - 1 
 word_clear n w j h l =
     ap₂ bit_and (sym (word_bits n w h)) (ap (λ (x : ℕ). 2 ^ n - 1 - x) (sym (word-one n j l)) ∙ word-not n (λ k. eqb k j))
     ∙ word_and n (bit w) (λ k. not (eqb k j))
+
+-- and put in
+pub word_insert : (n w j : ℕ) → w < 2 ^ n → j < n → bit_or w (2 ^ j) ≡ word n (with (bit w) j)
+word_insert n w j h l =
+    ap₂ bit_or (sym (word_bits n w h)) (sym (word-one n j l)) ∙ word_or n (bit w) (λ k. eqb k j)
 
 -- ---- lists of words
 
@@ -164,6 +169,14 @@ pub are-cleared : (ws : List ℕ) (n : ℕ) → T (are_words ws) → T (are_word
 unfolding cleared
 are-cleared ws n t = are-set ws (n / 64) (word 64 (without (bit (get_or ws (n / 64) 0)) (n % 64))) t (word_lt 64 (without (bit (get_or ws (n / 64) 0)) (n % 64)))
 
+pub are-inserted : (ws : List ℕ) (n : ℕ) → T (are_words ws) → T (are_words (inserted ws n))
+unfolding inserted
+are-inserted ws n t = are-set ws (n / 64) (word 64 (with (bit (get_or ws (n / 64) 0)) (n % 64))) t (word_lt 64 (with (bit (get_or ws (n / 64) 0)) (n % 64)))
+
+pub length-inserted : (ws : List ℕ) (n : ℕ) → length (inserted ws n) ≡ length ws
+unfolding inserted
+length-inserted ws n = length-set ws (n / 64) (word 64 (with (bit (get_or ws (n / 64) 0)) (n % 64)))
+
 pub length-cleared : (ws : List ℕ) (n : ℕ) → length (cleared ws n) ≡ length ws
 unfolding cleared
 length-cleared ws n = length-set ws (n / 64) (word 64 (without (bit (get_or ws (n / 64) 0)) (n % 64)))
@@ -195,7 +208,7 @@ front k ws t h =
     sym (words_look' (take k ws) k (look ws) (are-take k ws t) (length-take-le k ws h)
     (λ p l. ap (λ (x : ℕ). bit x (p % 64)) (sym (get_or-take k ws (p / 64) 0 (omega arith)))))
 
--- ---- one number taken out
+-- ---- one number taken out or put in
 
 -- within one word numbers are the same where their digits are
 eqb_digit : (p n : ℕ) → p / 64 ≡ n / 64 → eqb (p % 64) (n % 64) ≡ eqb p n
@@ -205,19 +218,30 @@ eqb_digit p n e = go (ℕ_discrete p n)
     go (yes q) = eq-eqb (p % 64) (n % 64) (omega arith) ∙ sym (eq-eqb p n q)
     go (no q) = ne_eqb (p % 64) (n % 64) (λ f. q (omega arith)) ∙ sym (ne_eqb p n q)
 
--- n is out, and the others are as they were
-pub look-cleared : (ws : List ℕ) (n : ℕ) → n / 64 < length ws → (p : ℕ) → look (cleared ws n) p ≡ without (look ws) n p
-unfolding cleared
-look-cleared ws n h p = go (ℕ_discrete (p / 64) (n / 64))
+-- one word changed by a test of its numbers: f of the old test and of being n, where not being n changes nothing
+look-set : (ws : List ℕ) (n : ℕ) (f : Bool → Bool → Bool) → ((b : Bool) → f b false ≡ b) → n / 64 < length ws → (p : ℕ)
+    → look (set ws (n / 64) (word 64 (λ k. f (bit (get_or ws (n / 64) 0) k) (eqb k (n % 64))))) p ≡ f (look ws p) (eqb p n)
+look-set ws n f z h p = go (ℕ_discrete (p / 64) (n / 64))
   where
-    go : Dec (p / 64 ≡ n / 64) → look (cleared ws n) p ≡ without (look ws) n p
+    go : Dec (p / 64 ≡ n / 64)
+        → look (set ws (n / 64) (word 64 (λ k. f (bit (get_or ws (n / 64) 0) k) (eqb k (n % 64))))) p ≡ f (look ws p) (eqb p n)
     go (yes e) =
-        let D : Set = without (bit (get_or ws (n / 64) 0)) (n % 64) in
+        let D : Set = λ k. f (bit (get_or ws (n / 64) 0) k) (eqb k (n % 64)) in
         ap (λ (i : ℕ). bit (get_or (set ws (n / 64) (word 64 D)) i 0) (p % 64)) e
         ∙ ap (λ (x : ℕ). bit x (p % 64)) (get_or-set_same ws (n / 64) (word 64 D) 0 h)
         ∙ bit_word 64 D (p % 64) (omega arith)
-        ∙ ap₂ (λ (i : ℕ) (b : Bool). bit (get_or ws i 0) (p % 64) && not b) (sym e) (eqb_digit p n e)
+        ∙ ap₂ (λ (i : ℕ) (b : Bool). f (bit (get_or ws i 0) (p % 64)) b) (sym e) (eqb_digit p n e)
     go (no e) =
-        let D : Set = without (bit (get_or ws (n / 64) 0)) (n % 64) in
+        let D : Set = λ k. f (bit (get_or ws (n / 64) 0) k) (eqb k (n % 64)) in
         ap (λ (x : ℕ). bit x (p % 64)) (get_or-set_other ws (n / 64) (p / 64) (word 64 D) 0 e)
-        ∙ sym (ap (λ (b : Bool). look ws p && not b) (ne_eqb p n (λ q. e (ap (λ (m : ℕ). m / 64) q))) ∙ and-true (look ws p))
+        ∙ sym (ap (λ (b : Bool). f (look ws p) b) (ne_eqb p n (λ q. e (ap (λ (m : ℕ). m / 64) q))) ∙ z (look ws p))
+
+-- n is out, and the others are as they were
+pub look-cleared : (ws : List ℕ) (n : ℕ) → n / 64 < length ws → (p : ℕ) → look (cleared ws n) p ≡ without (look ws) n p
+unfolding cleared
+look-cleared ws n h p = look-set ws n (λ a b. a && not b) and-true h p
+
+-- n is in
+pub look-inserted : (ws : List ℕ) (n : ℕ) → n / 64 < length ws → (p : ℕ) → look (inserted ws n) p ≡ with (look ws) n p
+unfolding inserted
+look-inserted ws n h p = look-set ws n (λ a b. a || b) or-false h p

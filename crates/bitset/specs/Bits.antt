@@ -1,5 +1,5 @@
 -- Sets of numbers as binary digits: of one number, and of words of 64.
-use Rattle.std.specs.Prelude.{ℕ, zero, suc, ◌+◌, ◌*◌, ◌/◌, ◌%◌, ◌^◌, Bool, true, cond, not, ◌&&◌, List, [], ◌∷◌, get_or, set, eqb, ltb}
+use Rattle.std.specs.Prelude.{ℕ, zero, suc, ◌+◌, ◌*◌, ◌/◌, ◌%◌, ◌^◌, Bool, true, cond, not, ◌&&◌, ◌||◌, List, [], ◌∷◌, get_or, set, eqb, ltb}
 use Rattle.std.specs.Int.Count.{ones}
 
 -- a set of numbers, as the test of its members
@@ -40,9 +40,17 @@ are_words (w ∷ ws) = ltb w (2 ^ 64) && are_words ws
 abbrev pub without : Set → ℕ → Set
 without D n p = D p && not (eqb p n)
 
+-- the set with one number more
+abbrev pub with : Set → ℕ → Set
+with D n p = D p || eqb p n
+
 -- the words with number n taken out: one word changes
 unfoldable pub cleared : List ℕ → ℕ → List ℕ
 cleared ws n = set ws (n / 64) (word 64 (without (bit (get_or ws (n / 64) 0)) (n % 64)))
+
+-- the words with number n put in
+unfoldable pub inserted : List ℕ → ℕ → List ℕ
+inserted ws n = set ws (n / 64) (word 64 (with (bit (get_or ws (n / 64) 0)) (n % 64)))
 
 -- how many numbers below n are in the set
 unfoldable pub size : ℕ → Set → ℕ

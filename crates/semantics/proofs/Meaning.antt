@@ -47,7 +47,7 @@ module _ (I : Interpretation) (m : ℕ → Part) (R : Flat → Type 0) where
   fills_reads (exists_n g u c) L f w y = rw (w.3, w.4)
   fills_reads (forall_n g u c) L f w y = rw (w.3, w.4)
 
-  laid-reads : (c : Nf) (h : Flat) → Laid m R c h → (x : ℕ) → eval (parts_in I m x) h ≡ holds_nf I c x
+  pub laid-reads : (c : Nf) (h : Flat) → Laid m R c h → (x : ℕ) → eval (parts_in I m x) h ≡ holds_nf I c x
   unfolding Laid eval parts_in read_part holds_nf
   laid-reads top_n h w x = rw w
   laid-reads bottom_n h w x = rw w
@@ -89,11 +89,12 @@ module _ (I : Interpretation) (s : List Axiom) (ps : List Part) (fs : List Flat)
     axioms_hold s (and_r_lem (satisfies I a) (satisfies_tbox I s) k),
   )
 
-  origin_holds : (h : Flat) → Origin (part_at ps) (λ c. (x : ℕ) → x < I.individuals → holds_nf I c x ≡ true) h →
-      (x : ℕ) → x < I.individuals → eval (parts_in I (part_at ps) x) h ≡ true
+  -- of the individuals with P
+  pub origin_holds : (P : ℕ → Type 0) (h : Flat) → Origin (part_at ps) (λ c. (x : ℕ) → P x → holds_nf I c x ≡ true) h →
+      (x : ℕ) → P x → eval (parts_in I (part_at ps) x) h ≡ true
   unfolding eval parts_in read_part
-  origin_holds h (of_axiom c t w) x l = laid-reads I (part_at ps) (λ f. Unit) c h w x ∙ t x l
-  origin_holds _ (of_filler {h} j g c e w) x l =
+  origin_holds P h (of_axiom c t w) x l = laid-reads I (part_at ps) (λ f. Unit) c h w x ∙ t x l
+  origin_holds P _ (of_filler {h} j g c e w) x l =
       rw (e, laid-reads I (part_at ps) (λ f. Unit) c h w x) (imp_i (holds_nf I c x) (holds_nf I c x) (λ p. p))
 
   pub tbox_labelling : satisfies_tbox I s ≡ true → Labelling I (part_at ps) fs (parts_in I (part_at ps))
@@ -106,7 +107,7 @@ module _ (I : Interpretation) (s : List Axiom) (ps : List Part) (fs : List Flat)
     universals = λ x k g u f l e. rw e (every_same I u x
         (λ y. filler_in f (λ j. plain_at I (part_at ps j) y)) (λ y. filler_in f (parts_in I (part_at ps) y))
         (filler-reads I (part_at ps) f (subst (PartPlain (part_at ps)) e (F.fillers k))));
-    kb = all_map origin_holds fs (F.sound (λ c. (x : ℕ) → x < I.individuals → holds_nf I c x ≡ true) (axioms_hold s k));
+    kb = all_map (origin_holds (λ x. x < I.individuals)) fs (F.sound (λ c. (x : ℕ) → x < I.individuals → holds_nf I c x ≡ true) (axioms_hold s k));
   }
 
 -- The way back: where a tree is true on the label, the normal form that it lays out holds.

@@ -46,7 +46,8 @@ pub all_append : {A : Type 0} (P : A → Type 0) (l l' : List A) → All P l →
 all_append P [] l' h h' = h'
 all_append P (a ∷ l) l' h h' = (h.0, all_append P l l' h.1 h')
 
-all_more : {A : Type 0} (P Q : A → Type 0) → ((a : A) → P a → Q a) → (l : List A) → All P l → All Q l
+-- what holds of each of a list, by what it is from
+pub all_more : {A : Type 0} (P Q : A → Type 0) → ((a : A) → P a → Q a) → (l : List A) → All P l → All Q l
 all_more P Q f [] h = tt
 all_more P Q f (a ∷ l) h = (f a h.0, all_more P Q f l h.1)
 
