@@ -1,7 +1,7 @@
 -- The documents' numbers for refusals (01, "The calls, and what each refuses"; 02), and an answer or a refusal as numbers.
 use Rattle.std.specs.Prelude.{ℕ, List, [], ◌∷◌, Result, Ok, Err}
 use Rattle.refusals.specs.declared.Reason.{Reason}
-use Rattle.refusals.specs.declared.Reason.TheVariants.{UnknownKind, BodyCutOff, TooManyRecords, NumberTooLarge, NotEarlier, RoleForConcept, NamedAgain, EmptyRoles, TooManyParts, SetTooShort, NoSuchDomino, ListTooShort, SlotTooLong, QueueCutOff, ConceptForRole, AxiomNamed, UnknownWord, MisplacedWord, BeyondText, OutputTooShort}
+use Rattle.refusals.specs.declared.Reason.TheVariants.{UnknownKind, BodyCutOff, TooManyRecords, NumberTooLarge, NotEarlier, RoleForConcept, NamedAgain, EmptyRoles, TooManyParts, SetTooShort, NoSuchDomino, ListTooShort, SlotTooLong, QueueCutOff, ConceptForRole, AxiomNamed, UnknownWord, MisplacedWord, BeyondText, OutputTooShort, UnreadableEntry, TooManyIndividuals, NoSuchNumber, NoIndividuals}
 use Rattle.refusals.specs.declared.Refusal.{Refusal}
 
 abbrev pub number : Reason → ℕ
@@ -31,6 +31,12 @@ number UnknownWord = 18
 number MisplacedWord = 19
 number BeyondText = 20
 number OutputTooShort = 21
+-- 02, N10: "by record 22, unknown kind or cut off; 23, a 1,025th item; 24, a bit that is no trait or fresh mark, or an item or link
+-- that does not exist; at the end 25, no items"
+number UnreadableEntry = 22
+number TooManyIndividuals = 23
+number NoSuchNumber = 24
+number NoIndividuals = 25
 
 -- a refusal as numbers: its own and its place
 abbrev pub refusal_numbers : Refusal → List ℕ

@@ -27,6 +27,10 @@ pub enum Reason {
     MisplacedWord = 19,
     BeyondText = 20,
     OutputTooShort = 21,
+    UnreadableEntry = 22,
+    TooManyIndividuals = 23,
+    NoSuchNumber = 24,
+    NoIndividuals = 25,
 }
 
 impl Reason {
