@@ -33,7 +33,7 @@ pub struct Outcome {
 }
 
 // The knowledge base of a sheet, for a call on a set of so many words.
-fn load_for(sheet: &[u8], words: usize) -> Result<Base, Refusal>
+pub fn load_for(sheet: &[u8], words: usize) -> Result<Base, Refusal>
     ensures { LoadsFor (read_kb limit sheet.now) words result }
 {
     let base = tbox::loading::load(sheet)?;

@@ -37,7 +37,7 @@ fn part_in_label(label: usize, k: usize) -> bool
     (label >> k) % 2 == 1
 }
 
-fn filler_in_label(filler: Filler, label: usize) -> bool
+pub fn filler_in_label(filler: Filler, label: usize) -> bool
     ensures { result ≡ filler_in_label_lem filler label }
 {
     match filler {
