@@ -1,0 +1,10 @@
+pub mod EntryLaws
+pub mod Faultless
+pub mod RoleBits
+pub mod Breaches
+pub mod Keeping
+pub mod Laying
+pub mod Recorded
+pub mod OwnFile
+pub mod AsWritten
+pub mod Worked
