@@ -14,8 +14,9 @@ from pathlib import Path
 
 ROOT = Path(__file__).resolve().parent.parent
 
-PRODUCT = {"tbox", "domino", "capi", "owl_import", "owl_export"}
-LAYER = {"refusals", "bitset", "records", "flattening", "domino_conditions", "domino_initial", "domino_settling", "report", "console", "output", "owl_words"}
+PRODUCT = {"tbox", "domino", "interpretation", "capi", "owl_import", "owl_export"}
+LAYER = {"refusals", "bitset", "records", "flattening", "domino_conditions", "domino_initial", "domino_settling", "drawing_entries",
+         "drawing_rows", "report", "console", "output", "owl_words"}
 # Public functions without an ensures, and why.
 WITHOUT_ENSURES = {
     "console::complain": "it answers nothing and leaves nothing: what the system takes is not in the kit's contract of write",
@@ -98,7 +99,10 @@ def faults(crates, product, layer, without_ensures):
 
 SHORT = "\n    ensures { result ≡ 1 }\n{\n    1\n}\n"
 ASKS = "\n    requires { x ≡ 1 }" + SHORT
-NAMED = "\n    requires low { x ≡ 1 }\n    requires high { x ≡ 1 }\n    ensures one { result ≡ 1 }\n    ensures also { result ≡ 1 }\n{\n    1\n}\n"
+NAMED = (
+    "\n    requires low { x ≡ 1 }\n    requires high { x ≡ 1 }"
+    "\n    ensures one { result ≡ 1 }\n    ensures also { result ≡ 1 }\n{\n    1\n}\n"
+)
 # 144 characters, over two lines, and one more
 ONES = "1" * (LONGEST - len("ensures one { result ≡  }"))
 LONG = "pub fn f() -> u8\n    ensures one {\n        result ≡ " + ONES + " }\n{\n    1\n}\n"

@@ -1,0 +1,4 @@
+pub mod Joining
+pub mod RowBytes
+pub mod Filling
+pub mod Numbering
