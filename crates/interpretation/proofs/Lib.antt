@@ -1,0 +1,13 @@
+pub mod PartWords
+pub mod Making
+pub mod Successions
+pub mod Concluding
+pub mod RowsOf
+pub mod LabelTable
+pub mod Putting
+pub mod Pairs
+pub mod Breaching
+pub mod Agreement
+pub mod Answers
+pub mod Demands
+pub mod OwnFiles

@@ -1,0 +1,56 @@
+// An interpretation on file, held against a sheet: the first place where it breaks it, and its dominoes.
+#![tactic(auto)]
+
+ghost use Rattle.syntax.specs.Reading.{read_kb};
+ghost use Rattle.syntax.specs.Answers.{limit};
+ghost use Rattle.interpretation.specs.Answers.{ChecksPlant};
+
+pub mod dominoes;
+pub mod drawing;
+pub mod labels;
+pub mod tables;
+
+use crate::drawing::{Drawing, Finding};
+use crate::tables::parts_of;
+use domino::load_for;
+use drawing_entries::{MOST_INDIVIDUALS, read_individuals};
+use refusals::Refusal;
+
+impl Drawing<'_> {
+    ghost use Rattle.std.specs.Prelude.{length};
+    ghost use Rattle.domino_conditions.specs.Tables.{Enough};
+    ghost use Rattle.interpretation.specs.Drawings.{Checks};
+
+    // The first place where an axiom or a role inclusion breaks; the dominoes into the set.
+    // Not inlined: its block is most of what a call takes of the stack, and the stack has none of it while the sheet is read.
+    #[inline(never)]
+    fn check(&self, set: &mut [u64]) -> Finding
+        requires { Enough self.now.base.now (length set.old) }
+        ensures { Checks self.now set.old set.new result }
+    {
+        let mut block = [0u64; 16384];
+        let mut labels = [0u16; 1024];
+        self.label_all(&mut block, &mut labels);
+        let pair = self.put_all(&mut block, &labels, set);
+        match self.first_bad(&labels) {
+            Some(x) => Finding::Individual(x),
+            None => pair,
+        }
+    }
+}
+
+// Document 02's check of a drawn plant: refuses, or writes the plant's dominoes and answers where it breaks the sheet first.
+pub fn check_plant(sheet: &[u8], plant: &[u8], set: &mut [u64]) -> Result<Finding, Refusal>
+    ensures { ChecksPlant (read_kb limit sheet.now) plant.now set.old set.new result }
+{
+    let base = load_for(sheet, set.len())?;
+    let mut names = [0u16; MOST_INDIVIDUALS];
+    let plain = parts_of(&base, None);
+    let count = read_individuals(plant, usize::from(plain), base.size.roles, &mut names)?;
+    let drawing = Drawing {
+        base: &base,
+        file: plant,
+        names: &names[..count],
+    };
+    Ok(drawing.check(set))
+}
