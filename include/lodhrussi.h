@@ -1,31 +1,32 @@
 /*
- * Lodhrussi: sheets of rules, and whether some finite plant of at least one item keeps them; sheets to and from OWL 2
- * functional-style syntax. For C99 and later, and for C++.
+ * Lodhrussi: sheets of rules, and whether some finite plant of at least one item keeps them; drawn plants, and whether they keep
+ * a sheet; sheets to and from OWL 2 functional-style syntax. For C99 and later, and for C++.
  *
  * To link: `rt lib` in crates/capi writes crates/capi/out/libcapi.a (x86-64), then
  *
  *     cc -I include program.c crates/capi/out/libcapi.a
  *
- * docs/FORMAT.md has the format of a sheet, what a sheet means, and each call at length. In description logic a sheet is a
- * knowledge base, a rule an axiom, a link rule a role inclusion, a trait a concept name, a link a role, a mark a part of the
- * flattened knowledge base, a mark set a label, a pairing a domino, loose is defective, and a plant that keeps the sheet is a
- * finite interpretation that is a model.
+ * docs/FORMAT.md has the formats of a sheet and of a plant, what a sheet means, and each call at length. In description logic a
+ * sheet is a knowledge base, a rule an axiom, a link rule a role inclusion, a trait a concept name, a link a role, a mark a part of
+ * the flattened knowledge base, a mark set a label, a pairing a domino, loose is defective, a plant is a finite interpretation and
+ * an item an individual of it, and a plant that keeps the sheet is a model.
  *
  * Results. Every call returns the number of its refusal (enum lodhrussi_refusal), 0 for done.
  *   *place is written on a refusal and only then: the byte of the offending reference for 5, 6, 7, 16 and 17, the byte where the
  *   offending record starts for 1 to 4, 8 and 20, the byte in the text for 18 and 19, and 0 otherwise. Refused by import, 3 has
  *   place 0 too.
- *   The other numbers (*traits, *size, *verdict, ..) are written when done and only then; *condition only when struck.
+ *   The other numbers (*traits, *size, *verdict, ..) are written when done and only then; *condition only when struck, *first only
+ *   when an item or a pair breaks a rule, *second only when a pair does.
  *   A refusal writes nothing to a list, a set or an output.
  *
  * Order of refusals. A sheet is read record by record and the first fault is reported; inside a record 3, 1, 2, 4, then for each
- * reference in turn 5, then 6, 16 or 17, then 7, and last 8; after the last record 9. Then come 10 to 12, 20 and 21, for the calls
- * that name them, in the order named there.
+ * reference in turn 5, then 6, 16 or 17, then 7, and last 8; after the last record 9. Then come 10 to 12 and 20 to 25, for the
+ * calls that name them, in the order named there.
  *
  * Sets. Pairing number A * 2^(2L+c) + R * 2^c + B has left mark set A, link set R and right mark set B. A set of pairings is a list
  * of 64-bit words; pairing n is bit n mod 64 of word n / 64. Words needed: 2^(2c+2L) / 64, but at least 1: 1 for c + L up to 3,
- * 4,096 for 9, 262,144 for 12. With fewer than 64 pairings the spare bits of word 0 are cleared by open, settle and judge, and are
- * ignored and kept by strike. Words beyond those needed are never touched.
+ * 4,096 for 9, 262,144 for 12. With fewer than 64 pairings the spare bits of word 0 are cleared by open, settle, judge and check
+ * plant, and are ignored and kept by strike. Words beyond those needed are never touched.
  *
  * Pointers. None may be null, also where a length is 0; each must be aligned for its type and point to as many bytes or words as
  * the length beside it says, or to one number. All of it holds a value before the call, also where the call only writes. What is
@@ -49,24 +50,28 @@ enum lodhrussi_refusal {
     LODHRUSSI_DONE = 0,
     LODHRUSSI_UNKNOWN_KIND = 1,
     LODHRUSSI_BODY_CUT_OFF = 2,
-    LODHRUSSI_TOO_MANY_RECORDS = 3, /* a 256th record begins */
-    LODHRUSSI_NUMBER_TOO_LARGE = 4, /* of a trait or link: traits go up to 11, links up to 3 */
-    LODHRUSSI_NOT_EARLIER = 5,      /* a reference that names no earlier record */
-    LODHRUSSI_LINK_FOR_CLASS = 6,   /* a link where a class is wanted */
-    LODHRUSSI_NAMED_AGAIN = 7,      /* already named once and not allowed again */
-    LODHRUSSI_LINK_ON_EMPTY = 8,    /* the link of a some or only, or the first of a link rule, holds on the empty set of links */
-    LODHRUSSI_TOO_MANY_MARKS = 9,   /* c + L above 12 */
-    LODHRUSSI_SET_TOO_SHORT = 10,   /* fewer words than lodhrussi_words_needed */
-    LODHRUSSI_NO_SUCH_PAIRING = 11, /* number not below 2^(2c+2L) */
-    LODHRUSSI_LIST_TOO_SHORT = 12,  /* fewer than 3c bytes */
-    LODHRUSSI_SLOT_TOO_LONG = 14,   /* the queue program's; no call returns it */
-    LODHRUSSI_QUEUE_BROKEN = 15,    /* the queue program's; no call returns it */
-    LODHRUSSI_CLASS_FOR_LINK = 16,  /* a class where a link is wanted */
-    LODHRUSSI_RULE_NAMED = 17,      /* rules are never named */
-    LODHRUSSI_UNKNOWN_WORD = 18,    /* a word of a text that is not known */
-    LODHRUSSI_CANNOT_STAND = 19,    /* a known word or parenthesis that cannot stand there, or a text that ends inside a form */
-    LODHRUSSI_COMPOSED_LINK = 20,   /* a rule with a link that has not, and, or; or a link rule */
-    LODHRUSSI_OUTPUT_TOO_SHORT = 21 /* fewer bytes than are to be written */
+    LODHRUSSI_TOO_MANY_RECORDS = 3,  /* a 256th record begins */
+    LODHRUSSI_NUMBER_TOO_LARGE = 4,  /* of a trait or link: traits go up to 11, links up to 3 */
+    LODHRUSSI_NOT_EARLIER = 5,       /* a reference that names no earlier record */
+    LODHRUSSI_LINK_FOR_CLASS = 6,    /* a link where a class is wanted */
+    LODHRUSSI_NAMED_AGAIN = 7,       /* already named once and not allowed again */
+    LODHRUSSI_LINK_ON_EMPTY = 8,     /* the link of a some or only, or the first of a link rule, holds on the empty set of links */
+    LODHRUSSI_TOO_MANY_MARKS = 9,    /* c + L above 12 */
+    LODHRUSSI_SET_TOO_SHORT = 10,    /* fewer words than lodhrussi_words_needed */
+    LODHRUSSI_NO_SUCH_PAIRING = 11,  /* number not below 2^(2c+2L) */
+    LODHRUSSI_LIST_TOO_SHORT = 12,   /* fewer than 3c bytes */
+    LODHRUSSI_SLOT_TOO_LONG = 14,    /* the queue program's; no call returns it */
+    LODHRUSSI_QUEUE_BROKEN = 15,     /* the queue program's; no call returns it */
+    LODHRUSSI_CLASS_FOR_LINK = 16,   /* a class where a link is wanted */
+    LODHRUSSI_RULE_NAMED = 17,       /* rules are never named */
+    LODHRUSSI_UNKNOWN_WORD = 18,     /* a word of a text that is not known */
+    LODHRUSSI_CANNOT_STAND = 19,     /* a known word or parenthesis that cannot stand there, or a text that ends inside a form */
+    LODHRUSSI_COMPOSED_LINK = 20,    /* a rule with a link that has not, and, or; or a link rule */
+    LODHRUSSI_OUTPUT_TOO_SHORT = 21, /* fewer bytes than are to be written */
+    LODHRUSSI_PLANT_BROKEN = 22,     /* a plant's record of unknown kind, or cut off */
+    LODHRUSSI_TOO_MANY_ITEMS = 23,   /* a plant's 1,025th item */
+    LODHRUSSI_NOT_THERE = 24,        /* a plant's bit that is no trait or fresh mark, or an item or link that does not exist */
+    LODHRUSSI_NO_ITEMS = 25          /* a plant without items */
 };
 
 /* What a strike finds. */
@@ -85,6 +90,13 @@ enum lodhrussi_condition {
     LODHRUSSI_DELEX = 4,  /* a partner for a 'some' claim is missing */
     LODHRUSSI_DELUNI = 5, /* the left side lacks an 'only' claim, and a partner that would break it is missing */
     LODHRUSSI_SYM = 6     /* its mirror image is missing */
+};
+
+/* What the check of a plant finds. */
+enum lodhrussi_breach {
+    LODHRUSSI_HOLDS = 0, /* no item breaks a rule, and no pair a link rule */
+    LODHRUSSI_ITEM = 1,  /* an item breaks a rule */
+    LODHRUSSI_PAIR = 2   /* no item breaks a rule, and an ordered pair of items breaks a link rule */
 };
 
 /*
@@ -141,6 +153,15 @@ static inline const char *lodhrussi_refusal_sentence(uint64_t refusal)
         return "The rule is a link rule or has a link with not, and, or; the OWL text of a sheet has neither.";
     case LODHRUSSI_OUTPUT_TOO_SHORT:
         return "The output is too short for what is to be written.";
+    case LODHRUSSI_PLANT_BROKEN:
+        return "The plant has a record of no known kind, or one that is cut off by the end of the plant.";
+    case LODHRUSSI_TOO_MANY_ITEMS:
+        return "The plant has too many items: a plant has at most 1024.";
+    case LODHRUSSI_NOT_THERE:
+        return "The plant has an item with a bit that is no trait or fresh mark, or a connection that names no earlier item or no "
+               "known link.";
+    case LODHRUSSI_NO_ITEMS:
+        return "The plant has no items.";
     default:
         return "No call refuses with this number.";
     }
@@ -232,6 +253,24 @@ uint64_t lodhrussi_settle(const uint8_t *sheet, size_t n, uint64_t *set, size_t 
  */
 uint64_t lodhrussi_judge(const uint8_t *sheet, size_t n, uint64_t *set, size_t words, uint64_t *place, uint64_t *opening,
                          uint64_t *survivors, uint64_t *met);
+
+/*
+ * Check plant. The plant is m bytes, records of two kinds, in hex 40, an item, and 41, a connection. An item has two bytes, low
+ * first: bit n says that it has mark n, which is a trait or fresh mark. A connection has two bytes for the item that it goes from,
+ * two for the item that it goes to, each low first, and one for the number of its link. Items are numbered from 0 as they come, at
+ * most 1,024; a connection is of earlier items, and may repeat. The some and only marks of an item are worked out from the
+ * connections, their fillers as drawn.
+ * Answers *breach (enum lodhrussi_breach): 0 if the mark set of each item keeps the flattened rules, and the links of each ordered
+ * pair of items, an item with itself included, keep the link rules. If not, 1 and *first for the first item that breaks a flattened
+ * rule, or else 2 and *first and *second for the first pair that breaks a link rule, by the item it goes from, then the one it goes
+ * to. Writes the pairings of all these pairs into the set, whatever it was before, and whatever breaks. If nothing does, the plant,
+ * its items with their traits and its connections, keeps the sheet, and judging drops none of these pairings. Fresh marks count as
+ * drawn, so *breach can be 1 though every rule as written holds of the item.
+ * Refuses: as read does, then 10; then by record 22, 23, 24; then 25. A refusal keeps the whole set.
+ * Takes at most about 160 KB of stack, whatever the plant, and runs on a stack of 256 KB.
+ */
+uint64_t lodhrussi_check_plant(const uint8_t *sheet, size_t n, const uint8_t *plant, size_t m, uint64_t *set, size_t words,
+                               uint64_t *place, uint64_t *breach, uint64_t *first, uint64_t *second);
 
 /*
  * Import. Writes the sheet of a text of n bytes into the output of len bytes and answers its length, 765 at most. The text is OWL 2

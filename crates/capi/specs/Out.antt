@@ -7,6 +7,7 @@ use Rattle.output.specs.Output.{output_says, output_leaves}
 use Rattle.owl_import.specs.Import.{imported}
 use Rattle.owl_export.specs.Export.{exported}
 use Rattle.domino.specs.Answers.{open_says, open_leaves, strike_says, strike_leaves, settle_says, settle_leaves, judge_says, judge_leaves}
+use Rattle.interpretation.specs.Answers.{check_says, check_leaves}
 
 -- the result: the refusal's number, 0 for done
 abbrev pub result_out : List ℕ → ℕ
@@ -19,7 +20,8 @@ place_out (n ∷ []) before = before
 place_out (n ∷ p ∷ []) before = p
 place_out (n ∷ p ∷ v ∷ vs) before = before
 
--- value i afterwards: written if the call says it, else as it was before. A refusal says none, and strike a condition only when struck
+-- value i afterwards: written if the call says it, else as it was before. A refusal says none, strike a condition only when struck, and a
+-- check only the individuals that it names
 abbrev pub value_out : ℕ → List ℕ → ℕ → ℕ
 value_out i says before = get_or says (2 + i) before
 
@@ -60,6 +62,12 @@ judge_said sheet words = judge_says (read_kb limit sheet) words
 
 abbrev pub judge_left : List ℕ → List ℕ → List ℕ
 judge_left sheet words = judge_leaves (read_kb limit sheet) words
+
+abbrev pub check_said : List ℕ → List ℕ → List ℕ → List ℕ
+check_said sheet plant words = check_says (read_kb limit sheet) plant words
+
+abbrev pub check_left : List ℕ → List ℕ → List ℕ → List ℕ
+check_left sheet plant words = check_leaves (read_kb limit sheet) plant words
 
 -- what import says of a text and export of a sheet, and what each leaves of the bytes that are lent
 abbrev pub import_said : List ℕ → List ℕ → List ℕ

@@ -1,16 +1,19 @@
 // The functions for C and Rust: numbers and slices only, each a thin call. Each answers the refusal's number, 0 for done; a
 // refusal writes its place, a call that is done its values. Place, words and values are parameters of each call, and open, settle,
-// judge, import and export are written out, since the C header fixes every name and parameter.
+// judge, check, import and export are written out, since the C header fixes every name and parameter.
 #![tactic(auto)]
 
 ghost use Rattle.std.specs.Prelude.{◌≡◌, get_or};
 ghost use Rattle.refusals.specs.Numbers.{refusal_numbers};
 ghost use Rattle.domino.specs.Answers.{verdict_is, verdict_numbers};
+ghost use Rattle.drawings.specs.Checking.{breach_numbers};
+ghost use Rattle.interpretation.specs.Answers.{finding_is};
 ghost use Rattle.capi.specs.Out.{result_out, place_out, value_out};
 ghost use Rattle.capi.specs.Out.{read_said, SumOut, list_said, list_left, open_said, open_left, strike_said, strike_left, settle_said, settle_left, judge_said, judge_left};
-ghost use Rattle.capi.specs.Out.{import_said, import_left, export_said, export_left};
+ghost use Rattle.capi.specs.Out.{check_said, check_left, import_said, import_left, export_said, export_left};
 
 use domino::Verdict;
+use interpretation::drawing::Finding;
 use refusals::Refusal;
 
 // A refusal: its number is returned, and its place written.
@@ -175,6 +178,53 @@ pub extern "C" fn lodhrussi_judge(
             *opening = judgement.opening;
             *survivors = judgement.survivors;
             *met = u64::from(judgement.is_met());
+            0
+        }
+    }
+}
+
+// A finding's number, 0 all holds, 1 an individual, 2 a pair; and what is named.
+fn put_finding(found: Finding, breach: &mut u64, first: &mut u64, second: &mut u64)
+    ensures breach_after { breach.new ≡ get_or (breach_numbers (finding_is found)) 0 breach.old }
+    ensures first_after { first.new ≡ get_or (breach_numbers (finding_is found)) 1 first.old }
+    ensures second_after { second.new ≡ get_or (breach_numbers (finding_is found)) 2 second.old }
+{
+    match found {
+        Finding::Holds => *breach = 0,
+        Finding::Individual(x) => {
+            *breach = 1;
+            *first = x as u64;
+        }
+        Finding::Pair(x, y) => {
+            *breach = 2;
+            *first = x as u64;
+            *second = y as u64;
+        }
+    }
+}
+
+// Check a drawn plant: its dominoes into the words; where it breaks the sheet first.
+#[unsafe(no_mangle)]
+pub extern "C" fn lodhrussi_check_plant(
+    sheet: &[u8],
+    plant: &[u8],
+    set: &mut [u64],
+    place: &mut u64,
+    breach: &mut u64,
+    first: &mut u64,
+    second: &mut u64,
+) -> u64
+    ensures value { result ≡ result_out (check_said sheet.now plant.now set.old) }
+    ensures place_after { place.new ≡ place_out (check_said sheet.now plant.now set.old) place.old }
+    ensures breach_after { breach.new ≡ value_out 0 (check_said sheet.now plant.now set.old) breach.old }
+    ensures first_after { first.new ≡ value_out 1 (check_said sheet.now plant.now set.old) first.old }
+    ensures second_after { second.new ≡ value_out 2 (check_said sheet.now plant.now set.old) second.old }
+    ensures set_after { set.new ≡ check_left sheet.now plant.now set.old }
+{
+    match interpretation::check_plant(sheet, plant, set) {
+        Err(refusal) => refuse(refusal, place),
+        Ok(found) => {
+            put_finding(found, breach, first, second);
             0
         }
     }

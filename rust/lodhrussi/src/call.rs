@@ -20,11 +20,13 @@ pub enum Call {
     Import,
     /// [`export`](crate::export) and [`exported`](crate::exported)
     Export,
+    /// [`check_plant`](crate::check_plant)
+    CheckPlant,
 }
 
 impl Call {
     /// All of them, in the documents' order.
-    pub const ALL: [Call; 8] = [
+    pub const ALL: [Call; 9] = [
         Call::Read,
         Call::ListMarks,
         Call::Open,
@@ -33,6 +35,7 @@ impl Call {
         Call::Judge,
         Call::Import,
         Call::Export,
+        Call::CheckPlant,
     ];
 }
 
@@ -47,6 +50,7 @@ impl fmt::Display for Call {
             Call::Judge => "judge",
             Call::Import => "import",
             Call::Export => "export",
+            Call::CheckPlant => "check plant",
         })
     }
 }

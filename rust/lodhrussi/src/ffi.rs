@@ -1,6 +1,7 @@
 //! The functions of the static library. Each answers the number of a refusal,
-//! or 0; it writes `place` only on a refusal, all else only without one, and
-//! `condition` only when struck.
+//! or 0; it writes `place` only on a refusal, all else only without one,
+//! `condition` only when struck, `first` only where something breaks, and
+//! `second` only where a pair does.
 
 extern "C" {
     pub fn lodhrussi_read(
@@ -79,5 +80,19 @@ extern "C" {
         len: usize,
         place: *mut u64,
         written: *mut u64,
+    ) -> u64;
+
+    /// The breach is 0 for none, 1 of an item, 2 of a pair.
+    pub fn lodhrussi_check_plant(
+        sheet: *const u8,
+        n: usize,
+        plant: *const u8,
+        m: usize,
+        set: *mut u64,
+        words: usize,
+        place: *mut u64,
+        breach: *mut u64,
+        first: *mut u64,
+        second: *mut u64,
     ) -> u64;
 }

@@ -1,9 +1,12 @@
 //! Reads, flattens and judges knowledge bases of the description logic ALCIb
-//! with role inclusions, and takes them from and to OWL 2 functional-style
-//! syntax, by calls into the static library `capi`.
+//! with role inclusions, checks finite interpretations against them, and takes
+//! them from and to OWL 2 functional-style syntax, by calls into the static
+//! library `capi`.
 //!
 //! The bytes of a knowledge base are called a sheet: records of concepts, roles,
-//! axioms and role inclusions, each record naming earlier ones.
+//! axioms and role inclusions, each record naming earlier ones. Those of a finite
+//! interpretation are called a plant: records of individuals, called items, and of
+//! connections between earlier ones.
 //!
 //! Judging goes by dominoes: a domino is two labels (sets of parts, one for
 //! each of two individuals) and the set of roles between them. The canonical
@@ -33,6 +36,11 @@
 //!
 //! let text = "SubClassOf(owl:Thing ObjectSomeValuesFrom(:k0 :t0))\n";
 //! assert_eq!(lodhrussi::exported(&sheet)?, text);
+//!
+//! // An item with name 0, and a connection of role 0 from it to itself.
+//! let plant = [0x40, 1, 0, 0x41, 0, 0, 0, 0, 0];
+//! let found = lodhrussi::check_plant(&sheet, &plant, &mut set)?;
+//! assert_eq!(found, lodhrussi::PlantCheck::Holds);
 //! # Ok::<(), lodhrussi::Refusal>(())
 //! ```
 
@@ -41,6 +49,7 @@ mod condition;
 mod dominoes;
 mod ffi;
 mod owl;
+mod plants;
 mod refusal;
 
 pub mod records;
@@ -52,6 +61,7 @@ pub use call::Call;
 pub use condition::Condition;
 pub use dominoes::{judge, open, settle, strike, words_needed, Judgement, Strike, Verdict};
 pub use owl::{export, exported, import, imported};
+pub use plants::{check_plant, PlantCheck};
 pub use refusal::Refusal;
 
 /// What a sheet holds: the parts of its flattened knowledge base, counted by

@@ -11,6 +11,7 @@ pub(super) enum Subject {
     Reference,
     Sheet,
     Set,
+    Plant,
     DominoNumber,
     List,
     /// The axiom or role inclusion that starts at the place.
@@ -31,6 +32,7 @@ impl Subject {
             Subject::Reference => format!("The reference at byte {place}"),
             Subject::Sheet => "The sheet".into(),
             Subject::Set => "The set".into(),
+            Subject::Plant => "The plant".into(),
             Subject::DominoNumber => "The pairing number".into(),
             Subject::List => "The list".into(),
             Subject::Axiom => format!("The rule at byte {place}"),
@@ -47,10 +49,15 @@ impl Subject {
 pub(super) fn said(call: Call, number: u64) -> Option<(Subject, &'static str)> {
     match call {
         Call::Import => of_text(number),
+        Call::CheckPlant => of_plant(number).or_else(|| of_sheet(number)),
         _ => own(call, number).or_else(|| of_sheet(number)),
     }
 }
 
+const SET_TOO_SHORT: (Subject, &str) = (
+    Subject::Set,
+    "is too short: the sheet's pairings take more words",
+);
 const OUTPUT_TOO_SHORT: (Subject, &str) =
     (Subject::Output, "is too short for what is to be written");
 
@@ -69,14 +76,33 @@ fn of_text(number: u64) -> Option<(Subject, &'static str)> {
     })
 }
 
+/// What is said of a plant and of the set for its pairings, in the order of
+/// checking.
+fn of_plant(number: u64) -> Option<(Subject, &'static str)> {
+    use Subject::Plant;
+    Some(match number {
+        10 => SET_TOO_SHORT,
+        22 => (
+            Plant,
+            "has a record of no known kind, or one that is cut off by the end of the plant",
+        ),
+        23 => (Plant, "has too many items: a plant has at most 1024"),
+        24 => (
+            Plant,
+            "has an item with a bit that is no trait or fresh mark, or a connection that names no \
+             earlier item or no known link",
+        ),
+        25 => (Plant, "has no items"),
+        _ => return None,
+    })
+}
+
 /// What a call alone says of a sheet.
 fn own(call: Call, number: u64) -> Option<(Subject, &'static str)> {
     use Call::{Export, Judge, ListMarks, Open, Settle, Strike};
-    use Subject::{Axiom, DominoNumber, List, Set};
+    use Subject::{Axiom, DominoNumber, List};
     Some(match (call, number) {
-        (Open | Strike | Settle | Judge, 10) => {
-            (Set, "is too short: the sheet's pairings take more words")
-        }
+        (Open | Strike | Settle | Judge, 10) => SET_TOO_SHORT,
         (Strike, 11) => (
             DominoNumber,
             "is too large: the sheet has no pairing of that number",

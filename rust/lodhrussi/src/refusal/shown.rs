@@ -24,6 +24,7 @@ pub(super) fn shown(refusal: &Refusal, sheet: &[u8]) -> Option<String> {
             let bytes = count(3 * counts.marks(), "byte");
             Some(needed(counts, &format!("the list takes {bytes}")))
         }
+        (Subject::Plant, Ok(counts)) if number == 24 => of_plant(sheet, counts),
         (Subject::Output, Ok(_)) => {
             let text = crate::exported(sheet).ok()?;
             let bytes = count(text.len() as u64, "byte");
@@ -52,6 +53,30 @@ pub(super) fn count(number: u64, thing: &str) -> String {
 fn needed(counts: Counts, what: &str) -> String {
     let (marks, links) = (count(counts.marks(), "mark"), count(counts.links, "link"));
     format!("With {marks} and {links} {what}.")
+}
+
+/// What an item may have, and what a connection.
+fn of_plant(sheet: &[u8], counts: Counts) -> Option<String> {
+    let mut list = vec![0; 3 * counts.marks() as usize];
+    crate::list_marks(sheet, &mut list).ok()?;
+    let parts = (0..).zip(list.chunks_exact(3));
+    let names = parts.filter(|(_, part)| matches!(part[0], 0 | 1));
+    let bits = numbered("bit", &names.map(|(number, _)| number).collect::<Vec<_>>());
+    let links = numbered("link", &(0..counts.links).collect::<Vec<_>>());
+    let may_have = format!("an item may have {bits}, and a connection {links}");
+    Some(needed(counts, &may_have))
+}
+
+/// Things by their numbers.
+fn numbered(thing: &str, numbers: &[u64]) -> String {
+    match numbers {
+        [] => format!("no {thing}"),
+        [only] => format!("{thing} {only}"),
+        [before @ .., last] => {
+            let before: Vec<_> = before.iter().map(u64::to_string).collect();
+            format!("{thing}s {} and {last}", before.join(", "))
+        }
+    }
 }
 
 /// Too many parts and roles.

@@ -55,6 +55,25 @@ const LIST_TOO_SHORT: &str = "The list is too short: each of the sheet's marks t
 
 const OUTPUT_TOO_SHORT: &str = "The output is too short for what is to be written.";
 
+/// What the call of a plant has beyond those of its sheet.
+const OF_PLANT: [(u64, &str); 5] = [
+    (10, SET_TOO_SHORT),
+    (
+        22,
+        "The plant has a record of no known kind, or one that is cut off by the end of the plant.",
+    ),
+    (
+        23,
+        "The plant has too many items: a plant has at most 1024.",
+    ),
+    (
+        24,
+        "The plant has an item with a bit that is no trait or fresh mark, or a connection that \
+         names no earlier item or no known link.",
+    ),
+    (25, "The plant has no items."),
+];
+
 /// What the call of a text has.
 const OF_TEXT: [(u64, &str); 4] = [
     (
@@ -74,7 +93,7 @@ const NO_TEXT: &str =
      neither.";
 
 /// What a call of a sheet has beyond those.
-const OWN: [(Call, &[(u64, &str)]); 7] = [
+const OWN: [(Call, &[(u64, &str)]); 8] = [
     (Call::Read, &[]),
     (Call::ListMarks, &[(12, LIST_TOO_SHORT)]),
     (Call::Open, &[(10, SET_TOO_SHORT)]),
@@ -82,6 +101,7 @@ const OWN: [(Call, &[(u64, &str)]); 7] = [
     (Call::Settle, &[(10, SET_TOO_SHORT)]),
     (Call::Judge, &[(10, SET_TOO_SHORT)]),
     (Call::Export, &[(20, NO_TEXT), (21, OUTPUT_TOO_SHORT)]),
+    (Call::CheckPlant, &OF_PLANT),
 ];
 
 /// Asserts the sentence of each number of a call.
@@ -342,6 +362,7 @@ fn what_a_set_or_a_list_needs() {
         crate::settle(&sheet, &mut []).map(drop),
         crate::strike(&sheet, &mut [], 0).map(drop),
         crate::judge(&sheet, &mut []).map(drop),
+        crate::check_plant(&sheet, &[], &mut []).map(drop),
     ];
     for refusal in refusals {
         assert_shown(refusal.unwrap_err(), &sheet, words);
@@ -420,6 +441,61 @@ fn what_a_role_inclusion_shows() {
         shown.contains("Byte 18 is 20 (rule) and begins record 8: "),
         "{shown}"
     );
+}
+
+/// A sheet, and what it shows of what a plant may have.
+const MAY_HAVE: [(&str, &str); 5] = [
+    (
+        S1,
+        "With 2 marks and 1 link an item may have bit 0, and a connection link 0.",
+    ),
+    // S6: a mark between those that are drawn
+    (
+        "03 00 10 00 04 00 07 01 02 20 00 03",
+        "With 3 marks and 1 link an item may have bits 0 and 2, and a connection link 0.",
+    ),
+    (
+        "03 03 10 03",
+        "With 4 marks and 4 links an item may have bits 0, 1, 2 and 3, \
+         and a connection links 0, 1, 2 and 3.",
+    ),
+    // no mark but an only
+    (
+        "10 00 01 02 08 00 02 20 01 03",
+        "With 1 mark and 1 link an item may have no bit, and a connection link 0.",
+    ),
+    (
+        "",
+        "With 0 marks and 0 links an item may have no bit, and a connection no link.",
+    ),
+];
+
+#[test]
+fn what_a_plant_may_have() {
+    for (text, shown) in MAY_HAVE {
+        let (sheet, mut set) = (hex(text), [7; 1024]);
+        for plant in [[0x40, 0, 0x80].as_slice(), &[0x41, 0, 0, 0, 0, 0]] {
+            let refusal = crate::check_plant(&sheet, plant, &mut set).unwrap_err();
+            assert_eq!((refusal.number, refusal.place), (24, 0));
+            assert_shown(refusal, &sheet, shown);
+        }
+        assert_eq!(set, [7; 1024]);
+    }
+}
+
+#[test]
+fn what_a_sheet_does_not_show_of_a_plant() {
+    let sheet = hex(S1);
+    let many = [0x40, 0, 0].repeat(1025);
+    for (plant, number) in [(&[0x42][..], 22), (&[0x40, 0], 22), (&many, 23), (&[], 25)] {
+        let refusal = crate::check_plant(&sheet, plant, &mut [7]).unwrap_err();
+        assert_eq!((refusal.number, refusal.place), (number, 0));
+        assert_eq!(refusal.explain(&sheet), refusal.to_string());
+        assert!(!refusal.to_string().contains("byte"), "{refusal}");
+    }
+    // of another sheet, with a fault
+    let refusal = crate::check_plant(&sheet, &[0x40, 2, 0], &mut [7]).unwrap_err();
+    assert_eq!(refusal.explain(&[0x09]), refusal.to_string());
 }
 
 #[test]
