@@ -1,5 +1,5 @@
-//! Made-up sheets, and the comparison of an engine's calls with the reference:
-//! answers, places, and each word and byte of what is lent.
+//! Made-up sheets and plants, and the comparison of an engine's calls with the
+//! reference: answers, places, and each word and byte of what is lent.
 
 pub mod claims;
 pub mod copies;
@@ -11,6 +11,7 @@ pub mod inclusions;
 pub mod made_up;
 pub mod misreference;
 pub mod owl;
+pub mod plants;
 pub mod program;
 pub mod queues;
 pub mod random;
@@ -25,10 +26,10 @@ pub mod worked;
 mod hex;
 mod lent;
 
-use reference::{Counts, Judgement, Refusal, Strike};
+use reference::{Counts, Judgement, PlantCheck, Refusal, Strike};
 
 /// One more than the largest number of a refusal.
-pub const REFUSALS: usize = 22;
+pub const REFUSALS: usize = 26;
 
 /// The calls about a sheet alone, with the refusals of the reference.
 #[allow(clippy::missing_errors_doc)]
@@ -52,6 +53,18 @@ pub trait Judging {
 pub trait Translating {
     fn import(&self, text: &[u8], out: &mut [u8]) -> Result<usize, Refusal>;
     fn export(&self, sheet: &[u8], out: &mut [u8]) -> Result<usize, Refusal>;
+}
+
+/// The call about a sheet, a plant on file and a domino set, with the refusals of
+/// the reference.
+#[allow(clippy::missing_errors_doc)]
+pub trait Checking {
+    fn check_plant(
+        &self,
+        sheet: &[u8],
+        plant: &[u8],
+        set: &mut [u64],
+    ) -> Result<PlantCheck, Refusal>;
 }
 
 /// The reference itself.
@@ -92,5 +105,16 @@ impl Translating for Reference {
 
     fn export(&self, sheet: &[u8], out: &mut [u8]) -> Result<usize, Refusal> {
         reference::owl::export(sheet, out)
+    }
+}
+
+impl Checking for Reference {
+    fn check_plant(
+        &self,
+        sheet: &[u8],
+        plant: &[u8],
+        set: &mut [u64],
+    ) -> Result<PlantCheck, Refusal> {
+        reference::check_plant(sheet, plant, set)
     }
 }

@@ -52,4 +52,11 @@ pub(crate) enum Fault {
     /// An axiom has a role with not, and, or, or there is a role inclusion.
     NoText = 20,
     OutputTooShort = 21,
+    /// A record of a plant has an unknown kind, or is cut off.
+    NoPlantRecord = 22,
+    TooManyIndividuals = 23,
+    /// A bit of an individual that is no name or fresh name, or a connection with
+    /// an individual or a role that there is not.
+    NotInPlant = 24,
+    NoIndividuals = 25,
 }

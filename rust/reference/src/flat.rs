@@ -1,5 +1,6 @@
 //! The flattened knowledge base as trees, by document 01's list of rules.
 
+use crate::domino::Shape;
 use crate::fault::Refusal;
 use crate::sharing::Sharing;
 use crate::written::{Axiom, Concept, Inclusion, Role, Written};
@@ -13,6 +14,18 @@ pub enum Filler {
     Bottom,
     /// A concept name or fresh name, by its part.
     Part(usize),
+}
+
+impl Filler {
+    /// Whether a label has it.
+    #[must_use]
+    pub fn is_in(self, label: u64) -> bool {
+        match self {
+            Filler::Top => true,
+            Filler::Bottom => false,
+            Filler::Part(part) => label >> part & 1 == 1,
+        }
+    }
 }
 
 /// A restriction: its role and its filler.
@@ -82,6 +95,17 @@ pub struct FlatKb {
     pub axioms: Vec<Formula>,
     /// As written: flattening leaves them as they are.
     pub inclusions: Vec<Inclusion>,
+}
+
+impl FlatKb {
+    /// The shape of its dominoes.
+    #[must_use]
+    pub fn shape(&self) -> Shape {
+        Shape {
+            parts: self.parts.len(),
+            roles: self.roles,
+        }
+    }
 }
 
 /// Reads and flattens a sheet.

@@ -7,7 +7,8 @@
 //! base. Neither allocates. [`open`], [`strike`], [`settle`] and [`judge`] go
 //! through all dominoes, with the definitions applied as they stand. [`queue`]
 //! judges the sheets of a queue (document 02, N1). [`owl`] has the text of a
-//! sheet (N7).
+//! sheet (N7). [`check_plant`] holds a plant on file against a sheet (N10), and
+//! [`interpretation`] has what a plant is a model of, by the axioms as written.
 //!
 //! One claim has one part (document 02, N4); in [`apart`] each occurrence of a
 //! restriction has its own.
@@ -22,7 +23,9 @@ mod sharing;
 pub mod apart;
 pub mod domino;
 pub mod flat;
+pub mod interpretation;
 pub mod owl;
+pub mod plant;
 pub mod queue;
 pub mod written;
 
@@ -32,6 +35,7 @@ mod tests;
 pub use calls::{judge, open, settle, strike, Judgement, Strike, Verdict};
 pub use conditions::Conditions;
 pub use fault::Refusal;
+pub use plant::{check_plant, PlantCheck};
 
 use fault::Fault;
 use flatten::{flatten, PART_BYTES};

@@ -1,10 +1,12 @@
 //! Small interpretations by 002's Table 1: each that is a model of the axioms
-//! as written has all its dominoes in the judged set.
+//! as written has all its dominoes in the judged set; and what the reference's own
+//! interpretations say of some of them.
 
 use comparison::random::Random;
 use comparison::suites::report;
 use comparison::{few_axioms, made_up, worked};
 use reference::domino::{has, Domino, Shape};
+use reference::interpretation;
 use reference::written::{Concept, Role, Written};
 use reference::{judge, list_marks, read, Counts};
 use std::fmt;
@@ -13,6 +15,9 @@ const SHEETS: usize = 5_000;
 
 /// Where more interpretations of a size exist, this many are drawn.
 const DRAWN: u64 = 8_192;
+
+/// One of so many is compared with the reference's own.
+const COMPARED: u64 = 50;
 
 /// A set of individuals: bit x for individual x.
 type Individuals = u16;
@@ -155,12 +160,29 @@ impl Interpretation {
         }
         dominoes
     }
+
+    /// The same interpretation as the reference has it.
+    fn of_reference(&self) -> interpretation::Interpretation {
+        let [names, roles] = [self.names.len(), self.roles.len()];
+        let mut same = interpretation::Interpretation::of(self.individuals, names, roles);
+        for x in 0..self.individuals {
+            let named = (0..names).filter(|&name| self.names[name] >> x & 1 == 1);
+            named.for_each(|name| same.give(x, name));
+            for y in 0..self.individuals {
+                let joining = (0..roles).filter(|&role| self.related(self.roles[role], x, y));
+                joining.for_each(|role| same.join(x, y, role));
+            }
+        }
+        same
+    }
 }
 
 #[derive(Default)]
 struct Tally {
     sheets: u64,
     interpretations: u64,
+    /// Those compared with the reference's own.
+    compared: u64,
     models: u64,
     dominoes: u64,
     met: u64,
@@ -190,6 +212,9 @@ impl Tally {
             for bits in interpretations(individuals, counts, random) {
                 let interpretation = Interpretation::new(individuals, counts, bits);
                 self.interpretations += 1;
+                if self.interpretations.is_multiple_of(COMPARED) {
+                    self.compare(&interpretation, sheet, &written, &marks);
+                }
                 if !interpretation.satisfies(&written) {
                     continue;
                 }
@@ -207,6 +232,16 @@ impl Tally {
         self.sheets += 1;
         self.met += u64::from(judgement.met);
         self.count(&written, self.models - models_before);
+    }
+
+    /// Whether it is a model, and its dominoes, by this test and by the reference.
+    fn compare(&mut self, drawn: &Interpretation, sheet: &[u8], written: &Written, marks: &[u8]) {
+        let same = drawn.of_reference();
+        let is_model = same.satisfies(written);
+        assert_eq!(is_model, drawn.satisfies(written), "{sheet:02X?}");
+        let dominoes = Ok(drawn.dominoes(written, marks));
+        assert_eq!(same.dominoes(sheet), dominoes, "{sheet:02X?}");
+        self.compared += 1;
     }
 
     /// Counts a sheet of which so many models were seen.
@@ -234,7 +269,8 @@ impl fmt::Display for Tally {
         write!(
             f,
             "{} interpretations of {} sheets ({} met, {} with a model seen): \
-             {} models, {} dominoes of theirs found; {} models of {} sheets with role inclusions",
+             {} models, {} dominoes of theirs found; {} models of {} sheets with role inclusions; \
+             {} compared with the reference's own",
             self.interpretations,
             self.sheets,
             self.met,
@@ -242,7 +278,8 @@ impl fmt::Display for Tally {
             self.models,
             self.dominoes,
             self.models_with_inclusions,
-            self.modelled_with_inclusions
+            self.modelled_with_inclusions,
+            self.compared
         )
     }
 }
@@ -264,4 +301,5 @@ fn the_dominoes_of_every_small_model_are_judged_in() {
     }
     report("interpretations", &tally);
     assert!(tally.modelled_with_inclusions >= 500, "{tally}");
+    assert!(tally.compared >= 300_000, "{tally}");
 }

@@ -28,13 +28,20 @@ static void refusals(void)
     VALUE(LODHRUSSI_CANNOT_STAND);
     VALUE(LODHRUSSI_COMPOSED_LINK);
     VALUE(LODHRUSSI_OUTPUT_TOO_SHORT);
+    VALUE(LODHRUSSI_PLANT_BROKEN);
+    VALUE(LODHRUSSI_TOO_MANY_ITEMS);
+    VALUE(LODHRUSSI_NOT_THERE);
+    VALUE(LODHRUSSI_NO_ITEMS);
 }
 
-static void verdicts_and_conditions(void)
+static void answers(void)
 {
     VALUE(LODHRUSSI_ABSENT);
     VALUE(LODHRUSSI_STRUCK);
     VALUE(LODHRUSSI_KEPT);
+    VALUE(LODHRUSSI_HOLDS);
+    VALUE(LODHRUSSI_ITEM);
+    VALUE(LODHRUSSI_PAIR);
     VALUE(LODHRUSSI_KB);
     VALUE(LODHRUSSI_EX);
     VALUE(LODHRUSSI_UNI);
@@ -64,7 +71,7 @@ int main(void)
 {
     const uint64_t largest = ~(uint64_t)0;
     refusals();
-    verdicts_and_conditions();
+    answers();
 
     for (uint64_t marks = 0; marks <= 40; marks++)
         for (uint64_t links = 0; links <= 4; links++)

@@ -26,9 +26,16 @@ LODHRUSSI_UNKNOWN_WORD 18
 LODHRUSSI_CANNOT_STAND 19
 LODHRUSSI_COMPOSED_LINK 20
 LODHRUSSI_OUTPUT_TOO_SHORT 21
+LODHRUSSI_PLANT_BROKEN 22
+LODHRUSSI_TOO_MANY_ITEMS 23
+LODHRUSSI_NOT_THERE 24
+LODHRUSSI_NO_ITEMS 25
 LODHRUSSI_ABSENT 0
 LODHRUSSI_STRUCK 1
 LODHRUSSI_KEPT 2
+LODHRUSSI_HOLDS 0
+LODHRUSSI_ITEM 1
+LODHRUSSI_PAIR 2
 ";
 
 const NO_CALLS: &str = "No call refuses with this number.";
@@ -64,6 +71,7 @@ fn sentence(number: u64, place: u64) -> String {
         12 => Call::ListMarks,
         18 | 19 => Call::Import,
         20 | 21 => Call::Export,
+        22..=25 => Call::CheckPlant,
         _ => return NO_CALLS.into(),
     };
     of_call(call, number, place)

@@ -116,6 +116,48 @@ static void link_rules(void)
     export_sheet(sheet, sizeof sheet, 22);
 }
 
+/* The refusal and place of a check of a plant, what was found, and the set, which has more words than are needed. */
+static void check(const uint8_t *sheet, size_t n, const uint8_t *plant, size_t m, size_t words)
+{
+    uint64_t out[5] = {9, 9, 9, 9, 9}, set[5] = {9, 9, 9, 9, 9};
+    out[0] = lodhrussi_check_plant(sheet, n, plant, m, set, words, &out[1], &out[2], &out[3], &out[4]);
+    line("check", out, 5);
+    for (int i = 0; i < 5; i++)
+        printf("%" PRIX64 "%c", set[i], i + 1 < 5 ? ' ' : '\n');
+}
+
+/* Plants that hold, that an item breaks, that a pair breaks; each refusal of a plant, and two that come before. */
+static void plants(void)
+{
+    static const uint8_t s6[] = {0x03, 0x00, 0x10, 0x00, 0x04, 0x00, 0x07, 0x01, 0x02, 0x20, 0x00, 0x03};
+    static const uint8_t within[] = {0x10, 0x00, 0x10, 0x01, 0x21, 0x00, 0x01};
+    static const uint8_t joined[] = {0x40, 0x01, 0x00, 0x41, 0x00, 0x00, 0x00, 0x00, 0x00};
+    static const uint8_t second_alone[] = {0x40, 0x01, 0x00, 0x41, 0x00, 0x00, 0x00, 0x00, 0x00, 0x40, 0x00, 0x00};
+    static const uint8_t fresh[] = {0x40, 0x01, 0x00, 0x40, 0x04, 0x00, 0x41, 0x00, 0x00, 0x01, 0x00, 0x00};
+    static const uint8_t not_fresh[] = {0x40, 0x01, 0x00, 0x40, 0x00, 0x00, 0x41, 0x00, 0x00, 0x01, 0x00, 0x00};
+    static const uint8_t two[] = {0x40, 0x00, 0x00, 0x40, 0x00, 0x00, 0x41, 0x00, 0x00, 0x01, 0x00, 0x00};
+    static const uint8_t three[] = {0x40, 0x00, 0x00, 0x40, 0x00, 0x00, 0x40, 0x00, 0x00, 0x41, 0x02, 0x00, 0x01, 0x00, 0x00};
+    static const uint8_t a_some_drawn[] = {0x40, 0x02, 0x00};
+    static uint8_t items[3 * 1025];
+    for (size_t i = 0; i < sizeof items; i += 3)
+        items[i] = 0x40;
+
+    check(s1, sizeof s1, joined, sizeof joined, 5);
+    check(s6, sizeof s6, fresh, sizeof fresh, 5);
+    check(s1, sizeof s1, joined, 3, 5);
+    check(s1, sizeof s1, second_alone, sizeof second_alone, 5);
+    check(s6, sizeof s6, not_fresh, sizeof not_fresh, 5);
+    check(within, sizeof within, two, sizeof two, 5);
+    check(within, sizeof within, three, sizeof three, 5);
+
+    check(s1, 7, joined, sizeof joined, 5);
+    check(s1, sizeof s1, joined, 1, 0);
+    check(s1, sizeof s1, joined, 8, 5);
+    check(within, sizeof within, items, sizeof items, 5);
+    check(s1, sizeof s1, a_some_drawn, sizeof a_some_drawn, 5);
+    check(s1, sizeof s1, joined, 0, 5);
+}
+
 int main(void)
 {
     static const uint8_t not_earlier[] = {0x04, 0x00};
@@ -163,5 +205,6 @@ int main(void)
 
     texts();
     link_rules();
+    plants();
     return 0;
 }

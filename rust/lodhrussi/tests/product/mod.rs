@@ -1,8 +1,8 @@
 //! The library as the suites take what they compare.
 
-use comparison::{Judging, Reading, Translating};
+use comparison::{Checking, Judging, Reading, Translating};
 use lodhrussi::Call;
-use reference::{Counts, Judgement, Refusal, Strike, Verdict};
+use reference::{Counts, Judgement, PlantCheck, Refusal, Strike, Verdict};
 
 pub struct Product;
 
@@ -78,5 +78,21 @@ impl Translating for Product {
 
     fn export(&self, sheet: &[u8], out: &mut [u8]) -> Result<usize, Refusal> {
         lodhrussi::export(sheet, out).map_err(refused(Call::Export))
+    }
+}
+
+impl Checking for Product {
+    fn check_plant(
+        &self,
+        sheet: &[u8],
+        plant: &[u8],
+        set: &mut [u64],
+    ) -> Result<PlantCheck, Refusal> {
+        let check = lodhrussi::check_plant(sheet, plant, set);
+        Ok(match check.map_err(refused(Call::CheckPlant))? {
+            lodhrussi::PlantCheck::Holds => PlantCheck::Holds,
+            lodhrussi::PlantCheck::Item(item) => PlantCheck::Item(item),
+            lodhrussi::PlantCheck::Pair(from, to) => PlantCheck::Pair(from, to),
+        })
     }
 }

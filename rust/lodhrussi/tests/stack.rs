@@ -1,0 +1,187 @@
+//! The check of a plant on a small stack.
+
+use comparison::owl::nested;
+use comparison::plants::{Connection, Drawing, MOST};
+use comparison::worked::{from_hex, S1};
+use lodhrussi::{check_plant, PlantCheck, Refusal};
+use std::thread::Builder;
+
+/// Threads of so many bytes have room for a call: the least that the header promises,
+/// and a small thread.
+const STACKS: [usize; 2] = [160 * 1024, 256 * 1024];
+
+/// Checks a plant in such threads, with a set of so many words, all full before.
+fn on_a_small_stack(
+    sheet: &[u8],
+    plant: &[u8],
+    words: usize,
+) -> (Result<PlantCheck, Refusal>, Vec<u64>) {
+    let [first, second] = STACKS.map(|stack| in_thread(stack, sheet, plant, words));
+    assert_eq!(first, second);
+    first
+}
+
+fn in_thread(
+    stack: usize,
+    sheet: &[u8],
+    plant: &[u8],
+    words: usize,
+) -> (Result<PlantCheck, Refusal>, Vec<u64>) {
+    let (sheet, plant, mut set) = (sheet.to_vec(), plant.to_vec(), vec![u64::MAX; words]);
+    let small = Builder::new().stack_size(stack);
+    let thread = small.spawn(move || (check_plant(&sheet, &plant, &mut set), set));
+    let done = thread.expect("a thread").join();
+    done.expect("room on the stack")
+}
+
+/// Items with these names, and connections of role 0 between these.
+fn plant(names: &[u16], joined: &[(usize, usize)]) -> Vec<u8> {
+    let connection = |&(from, to): &_| Connection { from, to, role: 0 };
+    let drawing = Drawing {
+        individuals: names.into(),
+        connections: joined.iter().map(connection).collect(),
+    };
+    drawing.records().concat()
+}
+
+/// A set with these dominoes alone.
+fn with(dominoes: impl IntoIterator<Item = usize>, words: usize) -> Vec<u64> {
+    let mut set = vec![0; words];
+    for number in dominoes {
+        set[number / 64] |= 1 << (number % 64);
+    }
+    set
+}
+
+#[test]
+fn a_tiny_plant() {
+    // the sheet without records has one domino
+    let found = on_a_small_stack(&[], &plant(&[0], &[]), 1);
+    assert_eq!(found, (Ok(PlantCheck::Holds), vec![1]));
+    let found = on_a_small_stack(&from_hex(S1), &plant(&[1], &[(0, 0)]), 2);
+    assert_eq!(found, (Ok(PlantCheck::Holds), vec![1 << 63, u64::MAX]));
+}
+
+/// The most items, each with the name and joined to one.
+fn each_joined(to: impl Fn(usize) -> usize) -> Vec<u8> {
+    let joined: Vec<_> = (0..MOST).map(|from| (from, to(from))).collect();
+    plant(&[1; MOST], &joined)
+}
+
+/// Each item has the name and is joined to the next, the last to the first; then
+/// the last is not.
+#[test]
+fn the_most_items() {
+    let ring = each_joined(|from| (from + 1) % MOST);
+    // left and right with both parts; not joined, joined, and joined back
+    let whole = with([51, 55, 59], 1);
+    let found = on_a_small_stack(&from_hex(S1), &ring, 1);
+    assert_eq!(found, (Ok(PlantCheck::Holds), whole));
+
+    // the last has the name alone: pairs of two others, to it and from it, and itself
+    let open = with([51, 55, 59, 49, 53, 19, 27, 17], 1);
+    let found = on_a_small_stack(&from_hex(S1), &ring[..ring.len() - 6], 1);
+    assert_eq!(found, (Ok(PlantCheck::Item(1_023)), open));
+
+    // two are joined both ways or not at all
+    let across = each_joined(|from| MOST - 1 - from);
+    let found = on_a_small_stack(&from_hex(S1), &across, 1);
+    assert_eq!(found, (Ok(PlantCheck::Holds), with([51, 63], 1)));
+
+    let more = plant(&[1; MOST + 1], &[(0, 0)]);
+    let (found, set) = on_a_small_stack(&from_hex(S1), &more, 1);
+    assert_eq!(found.map_err(|refusal| refusal.number), Err(23));
+    assert_eq!(set, [u64::MAX]);
+}
+
+/// The names of an item in a plant of eight names.
+fn names(item: usize) -> usize {
+    37 * item % 256
+}
+
+/// To which item a role goes from an item.
+fn next(from: usize, role: usize) -> usize {
+    (from + 200 * role + 1) % MOST
+}
+
+fn role_set(from: usize, to: usize) -> usize {
+    let plain = |role| usize::from(next(from, role) == to);
+    let inverse = |role| usize::from(next(to, role) == from);
+    let bits = |role| (plain(role) + 2 * inverse(role)) << (2 * role);
+    (0..4).map(bits).sum()
+}
+
+/// The most items, each with some of eight names and joined by four roles; and the
+/// dominoes.
+fn eight_names_and_four_roles() -> (Vec<u8>, Vec<usize>) {
+    let mut dominoes = vec![];
+    for from in 0..MOST {
+        for to in 0..MOST {
+            let left = names(from) << 8 | role_set(from, to);
+            dominoes.push(left << 8 | names(to));
+        }
+    }
+    let of_each = |from| {
+        (0..4).map(move |role| Connection {
+            from,
+            to: next(from, role),
+            role,
+        })
+    };
+    let drawing = Drawing {
+        individuals: (0..MOST).map(|item| names(item) as u16).collect(),
+        connections: (0..MOST).flat_map(of_each).collect(),
+    };
+    (drawing.records().concat(), dominoes)
+}
+
+#[test]
+fn the_largest_set() {
+    const WORDS: usize = 262_144;
+    let (plant, dominoes) = eight_names_and_four_roles();
+    let expected = with(dominoes, WORDS);
+
+    let sheet = from_hex("03 07 10 03");
+    let found = on_a_small_stack(&sheet, &plant, WORDS);
+    assert_eq!(found, (Ok(PlantCheck::Holds), expected.clone()));
+
+    let (refused, set) = on_a_small_stack(&sheet, &plant, WORDS - 1);
+    assert_eq!(refused.map_err(|refusal| refusal.number), Err(10));
+    assert!(set.iter().all(|&word| word == u64::MAX));
+
+    // role 2 in role 3: of item 0 it goes to item 401 alone
+    let sheet = from_hex("03 07 10 02 10 03 21 01 02");
+    let found = on_a_small_stack(&sheet, &plant, WORDS);
+    assert_eq!(found, (Ok(PlantCheck::Pair(0, 401)), expected));
+}
+
+/// The deepest sheets: nots in nots, ands in ands, and nots in nots of a role.
+#[test]
+fn forms_in_forms() {
+    let of_text = |text: &str| lodhrussi::imported(text.as_bytes()).expect("a sheet");
+    // every name 0 is name 1
+    let nots = of_text(&nested(252));
+    // every name 0 and name 0 .. and name 1 is name 2
+    let (ands, end) = ("ObjectIntersectionOf(:t0 ".repeat(126), ")".repeat(126));
+    let ands = of_text(&format!("SubClassOf({ands}:t1{end} :t2)"));
+    // everything is joined by role 0 to something
+    let mut of_a_role = vec![0x01, 0x10, 0];
+    (1..=250).for_each(|role| of_a_role.extend([0x12, role]));
+    of_a_role.extend([0x07, 251, 0, 0x20, 0, 252]);
+    for (sheet, held, broken) in [
+        (nots, plant(&[3, 2], &[]), plant(&[0, 1], &[])),
+        (ands, plant(&[5, 7], &[]), plant(&[2, 3], &[])),
+        (
+            of_a_role,
+            plant(&[0, 0], &[(0, 1), (1, 1)]),
+            plant(&[0, 0], &[(0, 1)]),
+        ),
+    ] {
+        let counts = lodhrussi::read(&sheet).expect("a sheet without faults");
+        let words = lodhrussi::words_needed(counts);
+        let (found, _) = on_a_small_stack(&sheet, &held, words);
+        assert_eq!(found, Ok(PlantCheck::Holds));
+        let (found, _) = on_a_small_stack(&sheet, &broken, words);
+        assert_eq!(found, Ok(PlantCheck::Item(1)));
+    }
+}
