@@ -2,5 +2,6 @@
 
 pub mod families;
 pub mod plain;
+pub mod plants;
 pub mod sheets;
 pub mod timing;
