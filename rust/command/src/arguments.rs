@@ -14,6 +14,7 @@ pub enum Question {
     Judge(Judge),
     Show(Show),
     Strike(Strike),
+    Check(Check),
     Import(Import),
     Export(Export),
 }
@@ -58,6 +59,15 @@ pub struct Strike {
     pub names: Option<OsString>,
 }
 
+/// `lodhrussi check`
+#[derive(Clone, Debug, PartialEq, Eq)]
+pub struct Check {
+    pub sheet: OsString,
+    pub plant: OsString,
+    pub json: bool,
+    pub names: Option<OsString>,
+}
+
 /// `lodhrussi import`
 #[derive(Clone, Debug, PartialEq, Eq)]
 pub struct Import {
@@ -82,7 +92,7 @@ pub fn parse(arguments: impl IntoIterator<Item = OsString>) -> Result<Question, 
     let mut arguments = arguments.into_iter();
     let wrong = |what: String| Err(format!("{what}; lodhrussi --help tells how to ask"));
     let Some(first) = arguments.next() else {
-        return wrong("name a subcommand: judge, show, strike, import or export".into());
+        return wrong("name a subcommand: judge, show, strike, check, import or export".into());
     };
     let rest = arguments.collect();
     match first.to_str() {
@@ -92,6 +102,7 @@ pub fn parse(arguments: impl IntoIterator<Item = OsString>) -> Result<Question, 
         Some("judge") => of(Topic::Judge, rest, judge),
         Some("show") => of(Topic::Show, rest, show),
         Some("strike") => of(Topic::Strike, rest, strike),
+        Some("check") => of(Topic::Check, rest, check),
         Some("import") => of(Topic::Import, rest, import),
         Some("export") => of(Topic::Export, rest, export),
         _ if is_option(&first) => wrong(format!("there is no option {}", first.display())),
@@ -182,6 +193,19 @@ fn strike(mut given: Given) -> Result<Question, String> {
     Ok(Question::Strike(Strike {
         file,
         numbers: numbers.collect::<Result<_, _>>()?,
+        json: given.json,
+        names: given.names,
+    }))
+}
+
+fn check(mut given: Given) -> Result<Question, String> {
+    let (sheet, plant) = (given.operand("SHEET")?, given.operand("PLANT")?);
+    if !given.operands.is_empty() {
+        return Err("name one SHEET, one PLANT and no more".into());
+    }
+    Ok(Question::Check(Check {
+        sheet,
+        plant,
         json: given.json,
         names: given.names,
     }))
@@ -288,8 +312,13 @@ impl Given {
 
     /// The first operand.
     fn file(&mut self) -> Result<OsString, String> {
+        self.operand("FILE")
+    }
+
+    /// The next operand, which is that.
+    fn operand(&mut self, what: &str) -> Result<OsString, String> {
         let file = self.operands.pop_front();
-        file.ok_or_else(|| "name a FILE, or - for standard input".into())
+        file.ok_or_else(|| format!("name a {what}, or - for standard input"))
     }
 }
 
@@ -354,6 +383,8 @@ mod tests {
             ("judge --help", help(Topic::Judge)),
             ("show x -h", help(Topic::Show)),
             ("strike --help", help(Topic::Strike)),
+            ("help check", help(Topic::Check)),
+            ("check s -h", help(Topic::Check)),
             ("help import", help(Topic::Import)),
             ("export --help --ontology a:b", help(Topic::Export)),
             ("--version", Ok(Question::Version)),
@@ -428,6 +459,21 @@ mod tests {
         }
     }
 
+    #[test]
+    fn questions_about_a_sheet_and_a_plant() {
+        let check = |json, names: Option<&str>| {
+            Ok(Question::Check(Check {
+                sheet: "s".into(),
+                plant: "-".into(),
+                json,
+                names: names.map(OsString::from),
+            }))
+        };
+        assert_eq!(asked("check s -"), check(false, None));
+        let line = "check s --names n - --json";
+        assert_eq!(asked(line), check(true, Some("n")));
+    }
+
     /// Asserts what is said of lines that begin so, and where help is.
     #[track_caller]
     fn assert_wrong(subcommand: &str, rows: &[(&str, &str)]) {
@@ -447,7 +493,7 @@ mod tests {
         let rows = [
             (
                 "",
-                "name a subcommand: judge, show, strike, import or export",
+                "name a subcommand: judge, show, strike, check, import or export",
             ),
             ("weigh f", "there is no subcommand 'weigh'"),
             ("-", "there is no subcommand '-'"),
@@ -504,6 +550,23 @@ mod tests {
             ("f 18446744073709551616", too_large),
         ];
         assert_wrong("strike", &rows);
+    }
+
+    #[test]
+    fn what_cannot_be_checked() {
+        let rows = [
+            ("", "name a SHEET, or - for standard input"),
+            ("--json", "name a SHEET, or - for standard input"),
+            ("s", "name a PLANT, or - for standard input"),
+            ("s p q", "name one SHEET, one PLANT and no more"),
+            ("- -", "standard input (-) can be read only once"),
+            ("s - --names=-", "standard input (-) can be read only once"),
+            ("--lines s p", "there is no option --lines"),
+            ("--jobs 2 s p", "there is no option --jobs"),
+            ("--ontology a:b s p", "there is no option --ontology"),
+            ("s p --names", "--names wants a FILE after it"),
+        ];
+        assert_wrong("check", &rows);
     }
 
     #[test]

@@ -7,15 +7,17 @@ pub enum Topic {
     Judge,
     Show,
     Strike,
+    Check,
     Import,
     Export,
 }
 
 impl Topic {
-    pub const SUBCOMMANDS: [Topic; 5] = [
+    pub const SUBCOMMANDS: [Topic; 6] = [
         Topic::Judge,
         Topic::Show,
         Topic::Strike,
+        Topic::Check,
         Topic::Import,
         Topic::Export,
     ];
@@ -27,6 +29,7 @@ impl Topic {
             Topic::Judge => "judge",
             Topic::Show => "show",
             Topic::Strike => "strike",
+            Topic::Check => "check",
             Topic::Import => "import",
             Topic::Export => "export",
         }
@@ -39,6 +42,7 @@ impl Topic {
             Topic::Judge => JUDGE,
             Topic::Show => SHOW,
             Topic::Strike => STRIKE,
+            Topic::Check => return [CHECK, NAMES, SHEETS, PLANTS, STATUS].concat(),
             Topic::Import => return [IMPORT, NAMES, STATUS].concat(),
             Topic::Export => EXPORT,
         };
@@ -48,11 +52,13 @@ impl Topic {
 
 const WHOLE: &str = "\
 lodhrussi decides whether the rules of a sheet can all be kept at once: by some
-finite plant of at least one item, or by none.
+finite plant of at least one item, or by none; and whether a drawn plant keeps
+them.
 
     lodhrussi judge FILE...            whether the sheets can be met
     lodhrussi show FILE                what a sheet says, record by record
     lodhrussi strike FILE NUMBER...    why pairings of a sheet cannot stand
+    lodhrussi check SHEET PLANT        whether a drawn plant keeps a sheet
     lodhrussi import FILE              the sheet of an OWL text
     lodhrussi export FILE              the rules of a sheet as OWL text
 
@@ -110,6 +116,23 @@ Example:
     lodhrussi strike sheets/s1.hex 32 34
 ";
 
+const CHECK: &str = "\
+lodhrussi check [OPTION...] SHEET PLANT
+
+Tells whether a drawn plant keeps every rule of a sheet, how many items and
+connections it has, a repeated one counted once, and how many different
+pairings. If it breaks a rule: the first item that does, or else the first pair
+of items that breaks a link rule, as the proved library finds them; and which
+rules as written these break, which the command works out by itself and says
+so. There is no --lines, since no program prints lines for a plant.
+
+    --json          print one object, for programs
+    --names FILE    the trade's own words for traits and links
+
+Example:
+    lodhrussi check sheets/coil.hex sheets/coil.plant
+";
+
 const IMPORT: &str = "\
 lodhrussi import [OPTION...] FILE
 
@@ -158,10 +181,18 @@ text (pairs of hex digits, blanks, # comments) or a sheet's raw bytes; - is
 standard input.
 ";
 
+const PLANTS: &str = "
+A SHEET is such a FILE. A PLANT is hex text if it holds nothing but pairs of hex
+digits, blanks and # comments, else a plant's raw bytes. A plant without a fault
+begins with an item, the byte 40 or '@', so its raw bytes are never hex text.
+A plant has at most 32 MB.
+";
+
 const STATUS: &str = "
-Exit status: 0 every sheet can be met, or the question is answered; 1 a sheet
-cannot be met; 2 a sheet, a text or a number is refused; 3 trouble with a file,
-the arguments or the output. The largest counts.
+Exit status: 0 every sheet can be met, the plant keeps the sheet, or the
+question is answered; 1 a sheet cannot be met, or the plant breaks a rule; 2 a
+sheet, a plant, a text or a number is refused; 3 trouble with a file, the
+arguments or the output. The largest counts.
 ";
 
 #[cfg(test)]
@@ -186,7 +217,12 @@ mod tests {
     fn the_whole_names_every_subcommand() {
         let text = Topic::Whole.text();
         for topic in Topic::SUBCOMMANDS {
-            let usage = format!("\n    lodhrussi {} FILE", topic.word());
+            let operand = if topic == Topic::Check {
+                "SHEET PLANT"
+            } else {
+                "FILE"
+            };
+            let usage = format!("\n    lodhrussi {} {operand}", topic.word());
             assert!(text.contains(&usage), "{usage}");
         }
     }

@@ -35,6 +35,19 @@ impl Object {
         self.with(key, array(values))
     }
 
+    /// With a field that is an array of numbers.
+    #[must_use]
+    pub fn numbers(self, key: &str, values: impl IntoIterator<Item = u64>) -> Self {
+        let values = values.into_iter().map(|value| value.to_string());
+        self.with(key, array(values))
+    }
+
+    /// With a field that is an object.
+    #[must_use]
+    pub fn object(self, key: &str, value: &Object) -> Self {
+        self.with(key, value.to_string())
+    }
+
     /// With a field that is an array of objects.
     #[must_use]
     pub fn objects(self, key: &str, values: impl IntoIterator<Item = Object>) -> Self {
@@ -91,9 +104,12 @@ mod tests {
             .truth("met", true)
             .texts("none", [""; 0])
             .texts("texts", ["a", "b\n"])
+            .numbers("numbers", [0, u64::MAX])
+            .object("object", &inner)
             .objects("objects", [Object::default(), inner]);
         let expected = r#"{"file":"a \"b\"","most":18446744073709551615,"met":true,"#.to_string()
-            + r#""none":[],"texts":["a","b\n"],"objects":[{},{"n":1}]}"#;
+            + r#""none":[],"texts":["a","b\n"],"numbers":[0,18446744073709551615],"#
+            + r#""object":{"n":1},"objects":[{},{"n":1}]}"#;
         assert_eq!(object.to_string(), expected);
     }
 

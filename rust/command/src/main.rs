@@ -1,9 +1,11 @@
-//! The command `lodhrussi`: judges and shows sheets, strikes pairings, and takes
-//! sheets from and to OWL text.
+//! The command `lodhrussi`: judges and shows sheets, strikes pairings, checks drawn
+//! plants, and takes sheets from and to OWL text.
 
 mod answer;
 mod arguments;
+mod check;
 mod count;
+mod evaluation;
 mod export;
 mod help;
 mod hex;
@@ -11,10 +13,12 @@ mod import;
 mod json;
 mod judge;
 mod lines;
+mod members;
 mod names;
 mod owl;
 mod parts;
 mod picture;
+mod plant;
 mod pool;
 mod progress;
 mod say;
@@ -56,6 +60,7 @@ fn answer(question: &Question) -> Status {
         Question::Judge(options) => judge::run(options, &mut out),
         Question::Show(options) => show::run(options, &mut out),
         Question::Strike(options) => strike::run(options, &mut out),
+        Question::Check(options) => check::run(options, &mut out),
         Question::Import(options) => import::run(options, &mut out),
         Question::Export(options) => export::run(options, &mut out),
     };

@@ -70,32 +70,53 @@ struct Drawing<'a> {
 }
 
 impl Drawing<'_> {
-    /// The record, and under it the underline and the caption.
     fn lines(&self) -> String {
-        let Drawing {
-            record,
-            bytes,
-            caption,
-        } = self;
-        let place = format!("  record {} at byte {}:  ", record.number, record.start);
-        let length = 1 + record.fields().len();
-        let words = record.words();
-        format!(
-            "{place}{}  {words}\n{:indent$}{:rest$}  {caption}\n",
-            hex(record, length),
-            "",
-            "^".repeat(3 * bytes.len() - 1),
-            indent = place.len() + 3 * bytes.start,
-            rest = 3 * (length - bytes.start) - 1,
-        )
+        let record = &self.record;
+        let drawn = Drawn {
+            number: record.number,
+            start: record.start,
+            bytes: &record.bytes().collect::<Vec<_>>(),
+            length: 1 + record.fields().len(),
+            words: record.words(),
+        };
+        drawn.lines(&self.bytes, &self.caption)
     }
 }
 
-/// The first bytes of a record in hex, dots for those that are missing.
-fn hex(record: &Record<'_>, length: usize) -> String {
-    let shown = record.bytes().map(|byte| format!("{byte:02X}"));
-    let shown: Vec<_> = shown.chain(repeat("..".into())).take(length).collect();
-    shown.join(" ")
+/// A record as it is drawn.
+pub struct Drawn<'a> {
+    pub number: usize,
+    pub start: usize,
+    /// As far as they are there.
+    pub bytes: &'a [u8],
+    /// How many they should be.
+    pub length: usize,
+    pub words: &'a str,
+}
+
+impl Drawn<'_> {
+    /// The record, and under it the caption and the underline of some of its
+    /// bytes, which may be missing.
+    #[must_use]
+    pub fn lines(&self, bytes: &Range<usize>, caption: &str) -> String {
+        let place = format!("  record {} at byte {}:  ", self.number, self.start);
+        format!(
+            "{place}{}  {}\n{:indent$}{:rest$}  {caption}\n",
+            self.hex(),
+            self.words,
+            "",
+            "^".repeat(3 * bytes.len() - 1),
+            indent = place.len() + 3 * bytes.start,
+            rest = 3 * (self.length - bytes.start) - 1,
+        )
+    }
+
+    /// The bytes in hex, dots for those that are missing.
+    fn hex(&self) -> String {
+        let shown = self.bytes.iter().map(|byte| format!("{byte:02X}"));
+        let shown = shown.chain(repeat("..".into())).take(self.length);
+        shown.collect::<Vec<_>>().join(" ")
+    }
 }
 
 /// What is drawn of a refusal; nothing if another sheet was refused.

@@ -1,7 +1,9 @@
-//! A sheet from a file: OWL text, hex text, or else raw bytes.
+//! A sheet from a file: OWL text, hex text, or else raw bytes; and a plant, which is
+//! no OWL text.
 
 use crate::hex::{is_blank, Fault, Reader};
 use crate::owl::{is_text, LIMIT};
+use crate::plant::ITEM;
 use lodhrussi::Refusal;
 use std::ffi::OsStr;
 use std::fs::File;
@@ -12,13 +14,17 @@ use std::io::{self, ErrorKind, Read};
 /// first fault starts among these.
 pub const MOST: usize = 766;
 
-/// A sheet's bytes and where they come from.
+/// The bytes that a plant has at most: more than one takes of 1,024 items with all
+/// connections, each once.
+pub const MOST_OF_PLANT: usize = 1 << 25;
+
+/// The bytes of a sheet or a plant and where they come from.
 #[derive(Clone, Debug, PartialEq, Eq)]
 pub struct Source {
     /// The file as it is told to people.
     pub name: String,
     /// The sheet's first bytes, at most [`MOST`]; or a whole OWL text that is
-    /// refused.
+    /// refused; or a whole plant.
     pub bytes: Vec<u8>,
     /// Why an OWL text is no sheet.
     pub refusal: Option<Refusal>,
@@ -39,6 +45,12 @@ impl Source {
         Self::read_by(Self::take_text, file)
     }
 
+    /// Reads the plant in a file, or in standard input for `-`. The error is a
+    /// clause.
+    pub fn read_plant(file: &OsStr) -> Result<Source, String> {
+        Self::read_by(Self::take_plant, file)
+    }
+
     fn read_by(take: Take, file: &OsStr) -> Result<Source, String> {
         let name = name(file);
         let read = match file.to_str() {
@@ -55,15 +67,24 @@ impl Source {
         if input.is_text(&mut front)? {
             return Ok(Self::of_text(name, input.whole(front)?));
         }
-        let mut content = Content::new();
+        let mut content = Content::of_at_most(MOST);
         content.take_all(&front);
-        while !content.decided() {
-            match input.next()? {
-                [] => break,
-                bytes => content.take_all(bytes),
-            }
-        }
+        input.fill(&mut content)?;
         Ok(content.source(name))
+    }
+
+    /// Reads a plant to its end, or until it is too long.
+    fn take_plant(name: &str, input: &mut dyn Read) -> io::Result<Source> {
+        let mut content = Content::of_at_most(MOST_OF_PLANT + 1);
+        content.full_text_decides = true;
+        Chunks::of(input).fill(&mut content)?;
+        // what begins with an item was not meant as text either
+        content.control |= content.raw.first() == Some(&ITEM);
+        let source = content.source(name);
+        match source.bytes.len() > MOST_OF_PLANT {
+            true => Err(io::Error::other("longer than 32 MB")),
+            false => Ok(source),
+        }
     }
 
     /// Reads an OWL text to its end.
@@ -127,6 +148,17 @@ impl<'a> Chunks<'a> {
         Ok(&[])
     }
 
+    /// Reads into a content until more would change nothing.
+    fn fill(&mut self, content: &mut Content) -> io::Result<()> {
+        while !content.decided() {
+            match self.next()? {
+                [] => break,
+                bytes => content.take_all(bytes),
+            }
+        }
+        Ok(())
+    }
+
     /// Reads until it is decided whether this is OWL text.
     fn is_text(&mut self, front: &mut Vec<u8>) -> io::Result<bool> {
         while front.len() <= LIMIT {
@@ -176,6 +208,11 @@ pub fn name(file: &OsStr) -> String {
 
 /// A file's content, so far: as raw bytes and as hex text.
 struct Content {
+    /// So many bytes are kept of each.
+    most: usize,
+    /// Whether text that fills what is kept decides, since a fault behind it would
+    /// change nothing.
+    full_text_decides: bool,
     raw: Vec<u8>,
     text: Vec<u8>,
     reader: Reader,
@@ -186,8 +223,10 @@ struct Content {
 }
 
 impl Content {
-    fn new() -> Self {
+    fn of_at_most(most: usize) -> Self {
         Content {
+            most,
+            full_text_decides: false,
             raw: Vec::new(),
             text: Vec::new(),
             reader: Reader::new(),
@@ -198,7 +237,8 @@ impl Content {
 
     /// Whether more would change nothing.
     fn decided(&self) -> bool {
-        self.fault.is_some() && self.raw.len() == MOST
+        let is_full = |bytes: &[u8]| bytes.len() == self.most;
+        self.fault.is_some() && is_full(&self.raw) || self.full_text_decides && is_full(&self.text)
     }
 
     fn take_all(&mut self, bytes: &[u8]) {
@@ -212,18 +252,18 @@ impl Content {
 
     fn take(&mut self, byte: u8) {
         self.control |= byte < b' ' && !is_blank(byte);
-        keep(&mut self.raw, byte);
+        keep(&mut self.raw, byte, self.most);
         if self.fault.is_some() {
             return;
         }
         match self.reader.take(byte) {
-            Ok(Some(pair)) => keep(&mut self.text, pair),
+            Ok(Some(pair)) => keep(&mut self.text, pair, self.most),
             Ok(None) => {}
             Err(fault) => self.fault = Some(fault),
         }
     }
 
-    /// The sheet, after the last byte that decides.
+    /// The sheet or plant, after the last byte that decides.
     fn source(self, name: &str) -> Source {
         let fault = self.fault.or_else(|| self.reader.end().err());
         let bytes = if fault.is_some() { self.raw } else { self.text };
@@ -246,8 +286,8 @@ impl Content {
 }
 
 /// Puts a byte at the end, if there is room.
-fn keep(bytes: &mut Vec<u8>, byte: u8) {
-    if bytes.len() < MOST {
+fn keep(bytes: &mut Vec<u8>, byte: u8, most: usize) {
+    if bytes.len() < most {
         bytes.push(byte);
     }
 }
@@ -403,6 +443,63 @@ mod tests {
         }
         assert_eq!(source(b"SubClassOf").bytes, b"SubClassOf");
         assert_eq!(source(b"Prefix\n").refusal.map(|r| r.number), Some(18));
+    }
+
+    fn plant(mut content: &[u8]) -> Source {
+        Source::take_plant("f", &mut content).expect("bytes in memory are read")
+    }
+
+    /// Plants go round, longer than a sheet too; what begins with an item is raw
+    /// without a note, and what has a fault is raw with one.
+    #[test]
+    fn plants_go_round_raw_and_as_text() {
+        let mut random = Random::seeded(97);
+        for _ in 0..300 {
+            let count = random.below(2 * MOST);
+            let bytes = [&[ITEM][..], &random.bytes(count)].concat();
+            for content in [&bytes, &hex(&bytes).into_bytes()] {
+                let Source {
+                    bytes: taken,
+                    notes,
+                    ..
+                } = plant(content);
+                assert_eq!((&taken, &notes[..]), (&bytes, &[][..]));
+            }
+        }
+        let raw = plant(b"@!\n");
+        assert_eq!((&raw.bytes[..], &raw.notes[..]), (&b"@!\n"[..], &[][..]));
+        let note = "f: line 1, column 4: 'x' is no hex digit; taking the file as raw bytes";
+        let raw = plant(b"40 x");
+        assert_eq!(
+            (&raw.bytes[..], &raw.notes[..]),
+            (&b"40 x"[..], &[note.to_string()][..])
+        );
+        assert_eq!(plant(b"").bytes, []);
+        // no plant is OWL text
+        assert_eq!(plant(b"SubClassOf(:t0 :t1)").refusal, None);
+    }
+
+    #[test]
+    fn a_plant_that_is_too_long() {
+        let take = |bytes: &[u8]| Source::take_plant("f", &mut &bytes[..]);
+        let longest = vec![ITEM; MOST_OF_PLANT];
+        let taken = take(&longest).expect("bytes in memory are read");
+        assert_eq!(taken.bytes, longest);
+        let text = b"40".repeat(MOST_OF_PLANT);
+        let taken = take(&text).expect("bytes in memory are read");
+        assert!(taken.bytes == longest);
+        for longer in [
+            vec![ITEM; MOST_OF_PLANT + 1],
+            b"40".repeat(MOST_OF_PLANT + 1),
+        ] {
+            let error = take(&longer).expect_err("too long");
+            assert_eq!(error.to_string(), "longer than 32 MB");
+        }
+        // endless raw bytes, and endless hex text
+        for byte in [ITEM, b'0'] {
+            let error = Source::take_plant("f", &mut io::repeat(byte)).expect_err("too long");
+            assert_eq!(error.to_string(), "longer than 32 MB");
+        }
     }
 
     #[test]

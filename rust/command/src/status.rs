@@ -1,9 +1,10 @@
 /// The exit status. Of several files the largest counts.
 #[derive(Clone, Copy, Debug, PartialEq, Eq, PartialOrd, Ord)]
 pub enum Status {
-    /// Every sheet can be met, or the question is answered.
+    /// Every sheet can be met, the plant keeps the sheet, or the question is
+    /// answered.
     Answered = 0,
-    /// A sheet cannot be met.
+    /// A sheet cannot be met, or the plant breaks a rule.
     Unmet = 1,
     /// A refusal.
     Refused = 2,

@@ -5,6 +5,7 @@ mod tests;
 
 use crate::arguments::Strike;
 use crate::json::Object;
+use crate::members::{list, member_object, members, role_object, roles, Member};
 use crate::names::Names;
 use crate::parts::{parts, Part};
 use crate::picture::told;
@@ -139,25 +140,18 @@ impl Domino {
 
 /// A domino in words.
 struct Words {
-    left: Vec<Word>,
-    roles: Vec<Word>,
-    right: Vec<Word>,
+    left: Vec<Member>,
+    roles: Vec<Member>,
+    right: Vec<Member>,
 }
-
-/// A member of one of a domino's sets: its bit and what it is called.
-type Word = (u8, String);
 
 impl Words {
     fn of(domino: Domino, parts: &[Part], names: &Names) -> Self {
         let part = |bit: u8| parts[usize::from(bit)].tree.text(names);
-        let role = |bit| match role(bit) {
-            (role, false) => names.role(role),
-            (role, true) => names.inverse(role),
-        };
         Words {
-            left: words(domino.left, &part),
-            roles: words(domino.roles, &role),
-            right: words(domino.right, &part),
+            left: members(domino.left, &part),
+            roles: roles(domino.roles, names),
+            right: members(domino.right, &part),
         }
     }
 
@@ -172,37 +166,10 @@ impl Words {
 
     /// Puts them into an object.
     fn put(&self, object: Object) -> Object {
-        let part = |(bit, text): &Word| {
-            let object = Object::default().number("mark", u64::from(*bit));
-            object.text("text", text)
-        };
-        let role = |(bit, text): &Word| {
-            let (role, inverse) = role(*bit);
-            let object = Object::default().number("link", u64::from(role));
-            object.truth("reversed", inverse).text("text", text)
-        };
+        let part = |member| member_object("mark", member);
         object
             .objects("left", self.left.iter().map(part))
-            .objects("links", self.roles.iter().map(role))
+            .objects("links", self.roles.iter().map(role_object))
             .objects("right", self.right.iter().map(part))
-    }
-}
-
-/// The role of a bit of a role set, and whether it is its inverse.
-fn role(bit: u8) -> (u8, bool) {
-    (bit / 2, bit % 2 == 1)
-}
-
-/// The members of a set of bits.
-fn words(bits: u64, word: &dyn Fn(u8) -> String) -> Vec<Word> {
-    let members = (0..64).filter(|bit| bits >> bit & 1 == 1);
-    members.map(|bit| (bit, word(bit))).collect()
-}
-
-fn list(words: &[Word]) -> String {
-    let texts: Vec<_> = words.iter().map(|(_, text)| &**text).collect();
-    match &texts[..] {
-        [] => "none".into(),
-        texts => texts.join(", "),
     }
 }

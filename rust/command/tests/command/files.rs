@@ -23,6 +23,8 @@ fn assert_unread(folder: &Folder, file: &str, sentence: &str) {
         &["judge", "--lines", file],
         &["show", file],
         &["strike", file, "0"],
+        &["check", file, "/dev/null"],
+        &["check", "/dev/null", file],
     ] {
         run(folder, question).is(3, "", &err);
     }
@@ -33,6 +35,8 @@ fn assert_unread(folder: &Folder, file: &str, sentence: &str) {
         &["judge", "--json", file][..],
         &["show", "--json", file],
         &["strike", "--json", file, "0"],
+        &["check", "--json", file, "/dev/null"],
+        &["check", "--json", "/dev/null", file],
     ] {
         run(folder, question).is(3, &object, &err);
     }

@@ -1,12 +1,15 @@
 //! The built command, run as a process. What it writes to standard output and
 //! to standard error is compared whole, with its exit status.
 
+mod drawn;
 mod folder;
 mod json;
 mod run;
+mod said;
 mod sheets;
 mod words;
 
+mod check;
 mod counts;
 mod files;
 mod judge;

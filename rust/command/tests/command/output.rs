@@ -12,7 +12,7 @@ const FULL: &str =
     "lodhrussi: the answer cannot be written: No space left on device (os error 28)\n";
 
 /// Arguments of every subcommand and form.
-const QUESTIONS: [&[&str]; 14] = [
+const QUESTIONS: [&[&str]; 18] = [
     &["--help"],
     &["--version"],
     &["judge", "--help"],
@@ -27,10 +27,18 @@ const QUESTIONS: [&[&str]; 14] = [
     &["show", "--json", "bad.hex"],
     &["strike", "s1.hex", "32", "34"],
     &["strike", "--json", "s1.hex", "64"],
+    &["check", "s1.hex", "s1.plant"],
+    &["check", "s1.hex", "bad.hex"],
+    &["check", "--json", "s1.hex", "s1.plant"],
+    &["check", "--json", "bad.hex", "s1.plant"],
 ];
 
 fn folder() -> Folder {
-    Folder::with(&[("s1.hex", S1), ("bad.hex", "04 00")])
+    Folder::with(&[
+        ("s1.hex", S1),
+        ("bad.hex", "04 00"),
+        ("s1.plant", "40 01 00"),
+    ])
 }
 
 /// The command on a question in a folder, with no input.

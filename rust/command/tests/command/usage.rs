@@ -5,11 +5,12 @@ use crate::run::{lodhrussi, run, run_on, Ran};
 use comparison::worked::{S1, S6};
 use std::path::Path;
 
-const HELP: [(&str, &str); 6] = [
+const HELP: [(&str, &str); 7] = [
     ("", include_str!("help/whole.txt")),
     ("judge", include_str!("help/judge.txt")),
     ("show", include_str!("help/show.txt")),
     ("strike", include_str!("help/strike.txt")),
+    ("check", include_str!("help/check.txt")),
     ("import", include_str!("help/import.txt")),
     ("export", include_str!("help/export.txt")),
 ];
@@ -57,6 +58,7 @@ fn the_examples_of_the_help() {
             0,
             "32: struck by condition 6, sym: Its mirror image is missing.",
         ),
+        (0, "keeps the sheet"),
         (0, "03 00      # 0  'reheat coil'"),
         (0, "Prefix(:=<http://example.org/coil#>)"),
     ];
@@ -76,7 +78,7 @@ fn the_version() {
 const WRONG: &[(&[&str], &str)] = &[
     (
         &[],
-        "name a subcommand: judge, show, strike, import or export",
+        "name a subcommand: judge, show, strike, check, import or export",
     ),
     (&[""], "there is no subcommand ''"),
     (&["-"], "there is no subcommand '-'"),
@@ -202,6 +204,27 @@ const WRONG: &[(&[&str], &str)] = &[
     (
         &["strike", "--lines", "s1.hex", "0"],
         "strike: there is no option --lines",
+    ),
+    (&["check"], "check: name a SHEET, or - for standard input"),
+    (
+        &["check", "s1.hex"],
+        "check: name a PLANT, or - for standard input",
+    ),
+    (
+        &["check", "s1.hex", "s1.plant", "s1.plant"],
+        "check: name one SHEET, one PLANT and no more",
+    ),
+    (
+        &["check", "-", "-"],
+        "check: standard input (-) can be read only once",
+    ),
+    (
+        &["check", "s1.hex", "-", "--names", "-"],
+        "check: standard input (-) can be read only once",
+    ),
+    (
+        &["check", "--lines", "s1.hex", "s1.plant"],
+        "check: there is no option --lines",
     ),
     (&["import"], "import: name a FILE, or - for standard input"),
     (
