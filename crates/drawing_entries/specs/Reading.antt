@@ -4,14 +4,18 @@ use Rattle.bitset.specs.Bits.{bit}
 use Rattle.refusals.specs.Numbers.{number}
 use Rattle.refusals.specs.declared.Reason.{Reason}
 use Rattle.refusals.specs.declared.Refusal.{Refusal}
-use Rattle.drawings.specs.Entries.{Entry as EntryOf, individual, connection, unreadable, first_fault, entries_of, names_of}
+use Rattle.drawings.specs.Entries.{Connection as ConnectionOf, Entry as EntryOf, individual, connection, unreadable, first_fault, entries_of, names_of}
+use Rattle.drawing_entries.specs.declared.Connection.{Connection as CodeConnection}
 use Rattle.drawing_entries.specs.declared.Entry.{Entry}
 use Rattle.drawing_entries.specs.declared.Entry.TheVariants.{Individual, Connection}
 
--- a record as the definitions see it; none: it cannot be read
+-- a connection and a record as the definitions see them; none: it cannot be read
+abbrev pub connection_is : CodeConnection → ConnectionOf
+connection_is c = record { from = c.from; to = c.to; role = c.role }
+
 abbrev pub entry_is : Entry → EntryOf
 entry_is (Individual m) = individual m
-entry_is (Connection c) = connection (record { from = c.from; to = c.to; role = c.role })
+entry_is (Connection c) = connection (connection_is c)
 
 abbrev pub may_be : Option Entry → EntryOf
 may_be None = unreadable

@@ -13,7 +13,8 @@ use Rattle.drawings.proofs.RoleBits.{bits_past}
 use Rattle.drawing_entries.specs.declared.Connection.{Connection as CodeConnection}
 use Rattle.drawing_entries.specs.declared.Entry.TheVariants.{Individual, Connection as Joined}
 use Rattle.drawing_entries.proofs.Records.{Next, last_unreadable, none_left}
-use Rattle.drawing_rows.specs.Rows.{connection_is, Rows, Numbered, AllNumbered, InRows, bits_of, RowsFilled}
+use Rattle.drawing_entries.specs.Reading.{connection_is}
+use Rattle.drawing_rows.specs.Rows.{Rows, Numbered, AllNumbered, InRows, bits_of, RowsFilled}
 use Rattle.drawing_rows.proofs.Joining.{bits_more}
 use Rattle.drawing_rows.proofs.RowBytes.{rows_filled}
 

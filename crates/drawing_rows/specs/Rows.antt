@@ -5,11 +5,6 @@ use Rattle.semantics.specs.Projection.{role_bit}
 use Rattle.syntax.specs.Bounds.{All}
 use Rattle.drawings.specs.Entries.{Connection}
 use Rattle.drawings.specs.Checking.{connects}
-use Rattle.drawing_entries.specs.declared.Connection.{Connection as CodeConnection}
-
--- a connection as the definitions see it
-abbrev pub connection_is : CodeConnection → Connection
-connection_is c = record { from = c.from; to = c.to; role = c.role }
 
 -- a connection of at most 1,024 individuals and 4 roles
 pub record Numbered (c : Connection) : Type 0 where
@@ -30,7 +25,7 @@ pub record Rows (start : ℕ) (ws : List ℕ) : Type 0 where
 unfoldable pub byte_at : List ℕ → ℕ → ℕ
 byte_at ws p = word 8 (λ b. look ws (8 * p + b))
 
--- the numbers of a set in words are those that were there, and one more if it has a word
+-- the numbers in words are those that were there and those of a set, as far as the words go
 pub record Joins (D : Set) (before after : List ℕ) : Type 0 where
   pub long : length after ≡ length before
   pub are : T (are_words before) → T (are_words after)

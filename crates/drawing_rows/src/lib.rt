@@ -3,7 +3,8 @@
 
 ghost use Rattle.std.specs.Prelude.{◌≡◌, ◌<◌, ◌/◌, length};
 ghost use Rattle.drawings.specs.Entries.{entries_of, connections_of};
-ghost use Rattle.drawing_rows.specs.Rows.{connection_is, Rows, AllNumbered, Numbered, byte_at, InSet, InRows, RowsFilled};
+ghost use Rattle.drawing_entries.specs.Reading.{connection_is};
+ghost use Rattle.drawing_rows.specs.Rows.{Rows, AllNumbered, Numbered, byte_at, InSet, InRows, RowsFilled};
 
 use drawing_entries::{Connection, Entry, entry_at};
 

@@ -4,62 +4,57 @@ use Prim.Native.Nat.{ℕ, ◌≤◌, ◌<◌}
 use native.Mathlib.Omega.{arith}
 use mathlib.Core.Path.{◌≡◌, refl, sym, ap, ◌∙◌, fun_ext}
 use mathlib.Core.Logic.{◌↔◌}
-use mathlib.Core.Bool.{Bool, true, false, not, ◌&&◌, ◌||◌}
+use mathlib.Core.Bool.{Bool, true, not, ◌&&◌, ◌||◌}
 use mathlib.Core.List.{List, [], ◌∷◌}
 use lib.ListN.{length}
-use borrow.Author.Tests.{not-true, not-false}
+use borrow.Author.Tests.{not-false}
 use Rattle.bitset.specs.Bits.{bit, word}
 use Rattle.bitset.proofs.Facts.{and_l, and_r_lem, and_i, iff_eq}
 use Rattle.elimination.specs.Sets.{every}
 use Rattle.elimination.proofs.Quantifiers.{all-at, all_intro, every_and}
-use Rattle.syntax.specs.Concepts.{Axiom, RoleInclusion}
+use Rattle.syntax.specs.Concepts.{Axiom}
 use Rattle.syntax.specs.Normal.{axiom_nf}
 use Rattle.syntax.specs.Flatten.{Part, Flat, part_at}
 use Rattle.syntax.specs.Truth.{eval, kb_on, rbox_on}
-use Rattle.syntax.specs.Bounds.{All, InclusionBelow}
+use Rattle.syntax.specs.Bounds.{All}
 use Rattle.syntax.specs.Reading.{Kb, kb, flats_of, parts_of, read_kb}
 use Rattle.syntax.proofs.Promised.{all_more, kb_bounded, kb_inclusions}
-use Rattle.semantics.specs.Interpretations.{Interpretation, role_in, holds, satisfies, satisfies_tbox, satisfies_inclusion, satisfies_rbox, holds_nf}
+use Rattle.semantics.specs.Interpretations.{Interpretation, holds, satisfies, satisfies_tbox, holds_nf}
 use Rattle.semantics.specs.Conditions.{View}
 use Rattle.semantics.specs.Views.{kb_view}
-use Rattle.semantics.specs.Projection.{parts_in, role_set}
+use Rattle.semantics.specs.Projection.{parts_in}
 use Rattle.semantics.specs.Flattens.{Laid, Flattens}
 use Rattle.semantics.proofs.NormalForm.{axiom_holds}
 use Rattle.semantics.proofs.Meaning.{laid-reads, origin_holds, parts_out}
 use Rattle.semantics.proofs.Flattening.{judged_flattens}
-use Rattle.semantics.proofs.Projecting.{role_in_lem, word-whole}
+use Rattle.semantics.proofs.Projecting.{word-whole}
 use Rattle.drawings.specs.Entries.{Drawing, drawing_of}
 use Rattle.drawings.specs.Checking.{interpretation, Breach, unbroken, at, between, roles_between, label, breaks_at, breaks_between, breach}
 use Rattle.drawings.specs.Laid.{own_file}
-use Rattle.drawings.specs.Meanings.{Says, axioms_at, inclusions_between, FirstPair, SaysWritten}
+use Rattle.drawings.specs.Meanings.{First, FirstPair, Says, axioms_at, inclusions_between, SaysWritten}
+use Rattle.drawings.proofs.Inclusions.{rbox_between}
 use Rattle.drawings.proofs.Breaches.{breach_means}
 use Rattle.drawings.proofs.OwnFile.{own_individuals, own_drawn, own_part, own_models}
 
--- role inclusions are true on the role set from x to y exactly if they hold between x and y
-rbox_between : (I : Interpretation) (L : ℕ) (x y : ℕ) (l : List RoleInclusion) → All (InclusionBelow L) l
-    → rbox_on l (role_set L I.joined x y) ≡ inclusions_between I l x y
-unfolding rbox_on inclusions_between
-rbox_between I L x y [] b = refl
-rbox_between I L x y (i ∷ l) b =
-    rw (role_in_lem I.joined x y L i.left b.0.left, role_in_lem I.joined x y L i.right b.0.right, rbox_between I L x y l b.1) refl
+-- tests that agree below n have the same first number, and the same first pair
+first_same : (n m : ℕ) (f g : ℕ → Bool) (x : ℕ) → n ≡ m → ((z : ℕ) → z < n → f z ≡ g z) → First n f x → First m g x
+first_same n m f g x q e h = record {
+  within = omega (arith, h.within, q);
+  passes = sym (e x h.within) ∙ h.passes;
+  before = λ z l. sym (e z (omega (arith, l, h.within))) ∙ h.before z l;
+}
 
--- a test that says what fails, and one that says what holds
-fails_by : {a b : Bool} → a ≡ not b → a ≡ true → b ≡ false
-fails_by {a} {b} e h = not-true b (sym e ∙ h)
-
-holds_by : {a b : Bool} → a ≡ not b → a ≡ false → b ≡ true
-holds_by {a} {b} e h = not-false b (sym e ∙ h)
-
--- an interpretation satisfies role inclusions exactly if they hold between each two individuals
-pub inclusions_each : (I : Interpretation) (l : List RoleInclusion)
-    → satisfies_rbox I l ≡ every I.individuals (λ x. every I.individuals (inclusions_between I l x))
-unfolding satisfies_rbox satisfies_inclusion inclusions_between
-inclusions_each I [] = sym (all_intro I.individuals _ (λ x l. all_intro I.individuals (inclusions_between I [] x) (λ y m. refl)))
-inclusions_each I (i ∷ l) =
-    let here : ℕ → ℕ → Bool = λ x y. not (role_in I.joined i.left x y) || role_in I.joined i.right x y in
-    ap (λ (z : Bool). satisfies_inclusion I i && z) (inclusions_each I l)
-    ∙ every_and I.individuals (λ x. every I.individuals (here x)) (λ x. every I.individuals (inclusions_between I l x))
-    ∙ ap (every I.individuals) (fun_ext (λ x. every_and I.individuals (here x) (inclusions_between I l x)))
+first_pair_same : (n m : ℕ) (f g : ℕ → ℕ → Bool) (x y : ℕ) → n ≡ m → ((z w : ℕ) → z < n → w < n → f z w ≡ g z w)
+    → FirstPair n f x y → FirstPair m g x y
+first_pair_same n m f g x y q e h = record {
+  from = omega (arith, h.from, q);
+  to = omega (arith, h.to, q);
+  passes = sym (e x y h.from h.to) ∙ h.passes;
+  before = λ z w l k.
+      let i : w < n = omega (arith, k, q) in
+      sym (e z w (omega (arith, l, h.from)) i) ∙ h.before z w l i;
+  beside = λ w l. sym (e x w h.from (omega (arith, l, h.to))) ∙ h.beside w l;
+}
 
 module _ (limit : ℕ) (sheet : List ℕ) (k : Kb) (e : read_kb limit sheet ≡ kb k) where
   abbrev v : View
@@ -72,16 +67,10 @@ module _ (limit : ℕ) (sheet : List ℕ) (k : Kb) (e : read_kb limit sheet ≡ 
     pair_as_written x y = ap not (rbox_between (interpretation d) k.roles x y k.inclusions (kb_inclusions limit sheet e))
 
     -- the pair that is answered is the first
-    pub answered_pair : (x y : ℕ) → breach v d ≡ between x y → FirstPair (interpretation d) k.inclusions x y
+    pub answered_pair : (x y : ℕ) → breach v d ≡ between x y
+        → FirstPair (length d.names) (λ z w. not (inclusions_between (interpretation d) k.inclusions z w)) x y
     answered_pair x y h =
-        let b = (breach_means v d (between x y)).0 h in
-        record {
-          from = b.from;
-          to = b.to;
-          fails = fails_by (pair_as_written x y) b.breaks;
-          before = λ z w p q. holds_by (pair_as_written z w) (b.before z w p q);
-          beside = λ w p. holds_by (pair_as_written x w) (b.beside w p);
-        }
+        first_pair_same _ _ (breaks_between v d) _ x y refl (λ z w p q. pair_as_written z w) ((breach_means v d (between x y)).0 h).1
 
 -- ---- individuals
 
@@ -171,49 +160,23 @@ module _ (limit : ℕ) (sheet : List ℕ) (k : Kb) (e : read_kb limit sheet ≡ 
 
   says_written : (b : Breach) → Says u d b → SaysWritten I k b
   says_written unbroken s = (own_models limit sheet k e low I few).0 ((breach_means u d unbroken).1 s)
-  says_written (at x) s =
-      let i : x < I.individuals = omega (arith, s.within, same) in
-      record {
-        within = i;
-        fails = fails_by (own_breaks_at x i) s.breaks;
-        before = λ z l. holds_by (own_breaks_at z (omega (arith, l, i))) (s.before z l);
-      }
-  says_written (between x y) s =
-      let i : x < I.individuals = omega (arith, s.from, same) in
-      let j : y < I.individuals = omega (arith, s.to, same) in (
-        axioms_each I k.axioms ∙ all_intro I.individuals (axioms_at I k.axioms)
-            (λ z l. holds_by (own_breaks_at z l) (s.each z (omega (arith, l, same)))),
-        record {
-          from = i;
-          to = j;
-          fails = fails_by (own_breaks_between x y i j) s.breaks;
-          before = λ z w l h. holds_by (own_breaks_between z w (omega (arith, l, i)) h) (s.before z w l (omega (arith, h, same)));
-          beside = λ w l. holds_by (own_breaks_between x w i (omega (arith, l, j))) (s.beside w l);
-        },
-      )
+  says_written (at x) s = first_same _ _ (breaks_at u d) _ x same (λ z l. own_breaks_at z (omega (arith, l, same))) s
+  says_written (between x y) s = (
+    axioms_each I k.axioms ∙ all_intro I.individuals (axioms_at I k.axioms)
+        (λ z l. not-false (axioms_at I k.axioms z) (sym (own_breaks_at z l) ∙ s.0 z (omega (arith, l, same)))),
+    first_pair_same _ _ (breaks_between u d) _ x y same
+        (λ z w l h. own_breaks_between z w (omega (arith, l, same)) (omega (arith, h, same))) s.1,
+  )
 
   written_says : (b : Breach) → SaysWritten I k b → Says u d b
   written_says unbroken s = (breach_means u d unbroken).0 ((own_models limit sheet k e low I few).1 s)
-  written_says (at x) s =
-      record {
-        within = omega (arith, s.within, same);
-        breaks = own_breaks_at x s.within ∙ ap not s.fails;
-        before = λ z l. own_breaks_at z (omega (arith, l, s.within)) ∙ ap not (s.before z l);
-      }
-  written_says (between x y) s =
-      let f = s.1 in
-      record {
-        each = λ z l.
-            let h : z < I.individuals = omega (arith, l, same) in
-            own_breaks_at z h ∙ ap not (all-at I.individuals (axioms_at I k.axioms) (sym (axioms_each I k.axioms) ∙ s.0) z h);
-        from = omega (arith, f.from, same);
-        to = omega (arith, f.to, same);
-        breaks = own_breaks_between x y f.from f.to ∙ ap not f.fails;
-        before = λ z w l h.
-            let i : w < I.individuals = omega (arith, h, same) in
-            own_breaks_between z w (omega (arith, l, f.from)) i ∙ ap not (f.before z w l i);
-        beside = λ w l. own_breaks_between x w f.from (omega (arith, l, f.to)) ∙ ap not (f.beside w l);
-      }
+  written_says (at x) s = first_same _ _ _ (breaks_at u d) x (sym same) (λ z l. sym (own_breaks_at z l)) s
+  written_says (between x y) s = (
+    λ z l.
+        let h : z < I.individuals = omega (arith, l, same) in
+        own_breaks_at z h ∙ ap not (all-at I.individuals (axioms_at I k.axioms) (sym (axioms_each I k.axioms) ∙ s.0) z h),
+    first_pair_same _ _ _ (breaks_between u d) x y (sym same) (λ z w l h. sym (own_breaks_between z w l h)) s.1,
+  )
 
   -- an answer is given exactly where it is so of the axioms and role inclusions as written
   pub own_first : (b : Breach) → breach u d ≡ b ↔ SaysWritten I k b

@@ -111,10 +111,10 @@ module _ (v : View) (d : Drawing) where
   n = individuals v d
 
   -- does some pair from x on break
-  abbrev some_from : ℕ → Bool
+  abbrev pub some_from : ℕ → Bool
   some_from x = some n (breaks_between v d x)
 
-  none_from : (x : ℕ) → ((y : ℕ) → y < n → breaks_between v d x y ≡ false) → some_from x ≡ false
+  pub none_from : (x : ℕ) → ((y : ℕ) → y < n → breaks_between v d x y ≡ false) → some_from x ≡ false
   none_from x h = is_false (some_from x) (λ e. let w = any_found n (breaks_between v d x) e in false≢true (sym (h w.0 w.1) ∙ w.2))
 
   each_of : (x : ℕ) → some_from x ≡ false → (y : ℕ) → y < n → breaks_between v d x y ≡ false
@@ -131,14 +131,7 @@ module _ (v : View) (d : Drawing) where
           let y : least n (breaks_between v d x) < n =
           ltb-true _ n (least_some (breaks_between v d x) n ∙ any_intro n (breaks_between v d x) w.0 w.1 w.2) in
           rw (lt-ltb x n i)
-          (record {
-            each = h;
-            from = i;
-            to = y;
-            breaks = m.passes y;
-            before = λ z w p q. each_of z (l.before z p) w q;
-            beside = m.before;
-          })
+          (h, record { from = i; to = y; passes = m.passes y; before = λ z w p q. each_of z (l.before z p) w q; beside = m.before })
       go x l (no i) = rw (le-ltb x n (omega arith)) (record { each = h; pairs = λ z w p q. each_of z (l.before z (omega arith)) w q })
 
   pub breach_says : Says v d (breach v d)
@@ -146,7 +139,7 @@ module _ (v : View) (d : Drawing) where
   breach_says = go (least n (breaks_at v d)) (least_right (breaks_at v d) n) (dec_lt (least n (breaks_at v d)) n)
     where
       go : (x : ℕ) → IsLeast (breaks_at v d) n x → Dec (x < n) → Says v d (cond (ltb x n) (at x) (pair_breach v d))
-      go x l (yes i) = rw (lt-ltb x n i) (record { within = i; breaks = l.passes i; before = l.before })
+      go x l (yes i) = rw (lt-ltb x n i) (record { within = i; passes = l.passes i; before = l.before })
       go x l (no i) = rw (le-ltb x n (omega arith)) (pairs_say (λ z p. l.before z (omega arith)))
 
   none_breach : NoneBreaks v d → breach v d ≡ pair_breach v d
@@ -158,13 +151,14 @@ module _ (v : View) (d : Drawing) where
   unfolding breach pair_below
   says_breach unbroken h =
       none_breach h.each ∙ rw (least_fails some_from n (λ x l. none_from x (λ y. h.pairs x y l)), le-ltb n n (omega arith)) refl
-  says_breach (at x) h = rw (least_first (breaks_at v d) n x h.within h.breaks h.before, lt-ltb x n h.within) refl
+  says_breach (at x) h = rw (least_first (breaks_at v d) n x h.within h.passes h.before, lt-ltb x n h.within) refl
   says_breach (between x y) h =
-      none_breach h.each
+      let p = h.1 in
+      none_breach h.0
       ∙ rw (
-        least_first some_from n x h.from (any_intro n (breaks_between v d x) y h.to h.breaks) (λ z l. none_from z (λ w. h.before z w l)),
-        lt-ltb x n h.from,
-        least_first (breaks_between v d x) n y h.to h.breaks h.beside,
+        least_first some_from n x p.from (any_intro n (breaks_between v d x) y p.to p.passes) (λ z l. none_from z (λ w. p.before z w l)),
+        lt-ltb x n p.from,
+        least_first (breaks_between v d x) n y p.to p.passes p.beside,
       ) refl
 
   pub breach_means : (b : Breach) → breach v d ≡ b ↔ Says v d b

@@ -11,7 +11,8 @@ use Rattle.bitset.proofs.Facts.{and_l, and_r_lem, imp_i, iff_eq, is_false}
 use Rattle.bitset.proofs.Laws.{bit_and_lem, word_bits, word_ext}
 use Rattle.elimination.specs.Sets.{every}
 use Rattle.elimination.proofs.Quantifiers.{all-at, all_intro}
-use Rattle.drawings.specs.Entries.{Connection, Entry, individual, connection, unreadable, two_bytes, entry_of, after_entry, entries_within, entries_of, individuals_after, or_else, entry_fault, first_fault}
+use Rattle.records.specs.Scan.{or_else}
+use Rattle.drawings.specs.Entries.{Connection, Entry, individual, connection, unreadable, two_bytes, entry_of, after_entry, entries_within, entries_of, individuals_after, entry_fault, first_fault}
 
 -- ---- the first record
 

@@ -12,15 +12,15 @@ use Rattle.bitset.specs.Bits.{bit, word}
 use Rattle.bitset.proofs.Laws.{word_lt, bit_word, word_bits, bit_past}
 use Rattle.bitset.proofs.Facts.{and_l, and_r_lem, and_i}
 use Rattle.elimination.specs.Sets.{every, some}
-use Rattle.elimination.proofs.Quantifiers.{all_intro, any_same, all_same}
-use Rattle.syntax.specs.Concepts.{Role, RoleInclusion}
+use Rattle.elimination.proofs.Quantifiers.{any_same, all_same}
+use Rattle.syntax.specs.Concepts.{Role}
 use Rattle.syntax.specs.Flatten.{everything, nothing, name_a, Filler, atomic, fresh, Part, name_p, fresh_p, exists_p, forall_p, Flat, no_part, part_at}
 use Rattle.syntax.specs.Truth.{eval, kb_on, role_on, rbox_on}
 use Rattle.syntax.specs.Parts.{kind_of, role_holds}
-use Rattle.syntax.specs.Bounds.{All, RolesBelow, InclusionBelow, PartRole, Plain, FillerLow, FillerPlain, PartLow, PartPlain}
+use Rattle.syntax.specs.Bounds.{All, RolesBelow, PartRole, Plain, FillerLow, FillerPlain, PartLow, PartPlain}
 use Rattle.syntax.specs.Reading.{Kb, kb, flats_of, parts_of, read_kb}
 use Rattle.syntax.proofs.Promised.{kb_bounded, kb_part_roles, kb-fillers, kb-plain, kb_inclusions}
-use Rattle.semantics.specs.Interpretations.{Interpretation, role_in, satisfies_inclusion, satisfies_rbox, models}
+use Rattle.semantics.specs.Interpretations.{Interpretation, role_in, satisfies_rbox, models}
 use Rattle.semantics.specs.Dominoes.{unnumbered}
 use Rattle.semantics.specs.Conditions.{View, Stable, dominoes, canon, canon_dominoes}
 use Rattle.semantics.specs.Views.{filler_in, has_filler, kb_view}
@@ -36,6 +36,7 @@ use Rattle.semantics.proofs.Flattening.{judged_flattens}
 use Rattle.drawings.specs.Entries.{Drawing}
 use Rattle.drawings.specs.Checking.{connects, names_at, interpretation, unbroken, roles_between, has_part, label, drawn_dominoes, drawn_set, breaks_at, breaks_between, breach}
 use Rattle.drawings.specs.Meanings.{NoneBreaks, Holds, part_drawn, Draws}
+use Rattle.drawings.proofs.Inclusions.{rbox_holds}
 use Rattle.drawings.proofs.Breaches.{breach_means}
 
 -- interpretations and labels that agree on the individuals have the same dominoes
@@ -46,20 +47,6 @@ pub projection_same : (I I' : Interpretation) (L c : ℕ) (lab lab' : ℕ → �
 unfolding projection_of
 projection_same I I' L c lab lab' e p q A R B =
     rw (← e) (any_same I.individuals _ _ (λ x l. any_same I.individuals _ _ (λ y h. rw (p x l, p y h, q x y l h) refl)))
-
--- role inclusions that are true on the role sets of an interpretation hold in it
-rbox_holds : (I : Interpretation) (L : ℕ) (l : List RoleInclusion) → All (InclusionBelow L) l
-    → ((x y : ℕ) → x < I.individuals → y < I.individuals → rbox_on l (role_set L I.joined x y) ≡ true) → satisfies_rbox I l ≡ true
-unfolding rbox_on satisfies_rbox satisfies_inclusion
-rbox_holds I L [] b h = refl
-rbox_holds I L (i ∷ l) b h =
-    and_i (all_intro I.individuals _ (λ x lx. all_intro I.individuals _ (λ y ly.
-    rw (← role_in_lem I.joined x y L i.left b.0.left, ← role_in_lem I.joined x y L i.right b.0.right)
-    (and_l (here x y) (rbox_on l (role_set L I.joined x y)) (h x y lx ly)))))
-    (rbox_holds I L l b.1 (λ x y lx ly. and_r_lem (here x y) (rbox_on l (role_set L I.joined x y)) (h x y lx ly)))
-  where
-    here : ℕ → ℕ → Bool
-    here x y = not (role_on i.left (role_set L I.joined x y)) || role_on i.right (role_set L I.joined x y)
 
 module _ (limit : ℕ) (sheet : List ℕ) (k : Kb) (e : read_kb limit sheet ≡ kb k) (d : Drawing) where
   abbrev v : View

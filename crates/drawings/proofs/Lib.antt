@@ -1,7 +1,9 @@
 pub mod EntryLaws
 pub mod Faultless
 pub mod RoleBits
+pub mod Ranges
 pub mod Breaches
+pub mod Inclusions
 pub mod Keeping
 pub mod Laying
 pub mod Recorded

@@ -2,6 +2,7 @@
 use Rattle.std.specs.Prelude.{ℕ, zero, suc, ◌+◌, ◌*◌, not, ◌&&◌, ◌||◌, cond, List, [], ◌∷◌, eqb, leb, ltb, length, get_or, drop}
 use Rattle.bitset.specs.Bits.{Set, bit}
 use Rattle.elimination.specs.Sets.{every}
+use Rattle.records.specs.Scan.{or_else}
 
 -- "kind 41, a connection, with two bytes for the item it goes from, two for the item it goes to, and one link number"
 pub record Connection : Type 0 where
@@ -19,7 +20,7 @@ pub data Entry : Type 0 where
 abbrev pub two_bytes : List ℕ → ℕ → ℕ
 two_bytes bytes i = get_or bytes i 0 + 256 * get_or bytes (i + 1) 0
 
--- the record that bytes begin with: "kind 40, an item, with two bytes .. holding its trait and fresh marks", or kind 41
+-- the record that bytes begin with, kinds in hex: "kind 40, an item, with two bytes .. holding its trait and fresh marks", or kind 41
 unfoldable pub entry_of : List ℕ → Entry
 entry_of bytes =
     cond (eqb (get_or bytes 0 0) 0x40 && leb 3 (length bytes)) (individual (two_bytes bytes 1))
@@ -48,10 +49,6 @@ unfoldable pub individuals_after : ℕ → Entry → ℕ
 individuals_after n (individual m) = n + 1
 individuals_after n (connection c) = n
 individuals_after n unreadable = n
-
--- the first of two numbers, where 0 is no fault
-abbrev pub or_else : ℕ → ℕ → ℕ
-or_else f g = cond (eqb f 0) g f
 
 -- of a knowledge base with so many roles, of which `plain` says which parts are names or fresh names
 module _ (plain : Set) (roles : ℕ) where

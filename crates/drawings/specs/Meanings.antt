@@ -12,6 +12,21 @@ use Rattle.semantics.specs.Projection.{role_set}
 use Rattle.drawings.specs.Entries.{Drawing}
 use Rattle.drawings.specs.Checking.{connects, names_at, Breach, unbroken, at, between, individuals, roles_between, breaks_at, breaks_between}
 
+-- x is the first number below n that passes a test
+pub record First (n : ℕ) (f : ℕ → Bool) (x : ℕ) : Type 0 where
+  pub within : x < n
+  pub passes : f x ≡ true
+  pub before : (z : ℕ) → z < x → f z ≡ false
+
+-- (x, y) is the first pair of numbers below n, by x and then y, that passes a test: "by from and then to"
+pub record FirstPair (n : ℕ) (f : ℕ → ℕ → Bool) (x y : ℕ) : Type 0 where
+  pub from : x < n
+  pub to : y < n
+  pub passes : f x y ≡ true
+  pub before : (z w : ℕ) → z < x → w < n → f z w ≡ false
+  pub beside : (w : ℕ) → w < y → f x w ≡ false
+
+-- what an answer says of a drawing and the flattened knowledge base
 module _ (v : View) (d : Drawing) where
   abbrev n : ℕ
   n = individuals v d
@@ -25,25 +40,10 @@ module _ (v : View) (d : Drawing) where
     pub each : NoneBreaks
     pub pairs : (x y : ℕ) → x < n → y < n → breaks_between v d x y ≡ false
 
-  -- x is the first individual that breaks a flattened axiom
-  pub record FirstAt (x : ℕ) : Type 0 where
-    pub within : x < n
-    pub breaks : breaks_at v d x ≡ true
-    pub before : (z : ℕ) → z < x → breaks_at v d z ≡ false
-
-  -- no individual breaks a flattened axiom, and (x, y) is the first pair, by x and then y, that breaks a role inclusion
-  pub record FirstBetween (x y : ℕ) : Type 0 where
-    pub each : NoneBreaks
-    pub from : x < n
-    pub to : y < n
-    pub breaks : breaks_between v d x y ≡ true
-    pub before : (z w : ℕ) → z < x → w < n → breaks_between v d z w ≡ false
-    pub beside : (w : ℕ) → w < y → breaks_between v d x w ≡ false
-
   abbrev pub Says : Breach → Type 0
   Says unbroken = Holds
-  Says (at x) = FirstAt x
-  Says (between x y) = FirstBetween x y
+  Says (at x) = First n (breaks_at v d) x
+  Says (between x y) = NoneBreaks × FirstPair n (breaks_between v d) x y
 
 -- a part at a drawn individual (002, Table 1): names and fresh names as drawn, restrictions by what they say of the others
 unfoldable pub part_drawn : Drawing → Part → ℕ → ℕ → Bool
@@ -71,22 +71,10 @@ unfoldable pub inclusions_between : Interpretation → List RoleInclusion → �
 inclusions_between I [] x y = true
 inclusions_between I (i ∷ l) x y = (not (role_in I.joined i.left x y) || role_in I.joined i.right x y) && inclusions_between I l x y
 
--- x is the first individual of which an axiom fails
-pub record FirstItem (I : Interpretation) (s : List Axiom) (x : ℕ) : Type 0 where
-  pub within : x < I.individuals
-  pub fails : axioms_at I s x ≡ false
-  pub before : (z : ℕ) → z < x → axioms_at I s z ≡ true
-
--- (x, y) is the first pair, by x and then y, between which a role inclusion fails
-pub record FirstPair (I : Interpretation) (l : List RoleInclusion) (x y : ℕ) : Type 0 where
-  pub from : x < I.individuals
-  pub to : y < I.individuals
-  pub fails : inclusions_between I l x y ≡ false
-  pub before : (z w : ℕ) → z < x → w < I.individuals → inclusions_between I l z w ≡ true
-  pub beside : (w : ℕ) → w < y → inclusions_between I l x w ≡ true
-
--- what an answer says of an interpretation and the knowledge base as written
+-- what an answer says of an interpretation and the knowledge base as written: the individual is the first of which an axiom fails; or
+-- none fails, and the pair is the first between which a role inclusion fails
 abbrev pub SaysWritten : Interpretation → Kb → Breach → Type 0
 SaysWritten I k unbroken = models I k ≡ true
-SaysWritten I k (at x) = FirstItem I k.axioms x
-SaysWritten I k (between x y) = (satisfies_tbox I k.axioms ≡ true) × FirstPair I k.inclusions x y
+SaysWritten I k (at x) = First I.individuals (λ z. not (axioms_at I k.axioms z)) x
+SaysWritten I k (between x y) =
+    (satisfies_tbox I k.axioms ≡ true) × FirstPair I.individuals (λ z w. not (inclusions_between I k.inclusions z w)) x y

@@ -3,13 +3,13 @@
 use mathlib.Core.Path.{◌≡◌, refl, ap, ap₂, ◌∙◌, fun_ext}
 use mathlib.Core.Bool.{Bool, true, false, not, ◌&&◌, ◌||◌, cond}
 use mathlib.Core.List.{List}
-use Prim.Native.Nat.{ℕ, ◌*◌, ◌^◌, ◌≤◌, ◌<◌}
+use Prim.Native.Nat.{ℕ, ◌≤◌, ◌<◌}
 use native.Mathlib.Omega.{arith}
 use lib.Dec.{eqb, ltb}
 use lib.ListN.{length}
 use borrow.Author.Tests.{ltb-true, eqb-true}
 use Rattle.bitset.specs.Bits.{word, words_for_lem}
-use Rattle.bitset.proofs.Laws.{word_lt, word_ext}
+use Rattle.bitset.proofs.Laws.{word_ext}
 use Rattle.elimination.specs.Calls.{written}
 use Rattle.elimination.proofs.Quantifiers.{any_same, all_same}
 use Rattle.semantics.specs.Dominoes.{total, unnumbered}
@@ -18,6 +18,7 @@ use Rattle.semantics.specs.Conditions.{View}
 use Rattle.domino.proofs.Agreement.{Agree}
 use Rattle.drawings.specs.Entries.{Drawing, entries_of, first_fault, drawing_of}
 use Rattle.drawings.specs.Checking.{connects, names_at, interpretation, is_plain, file_fault, roles_between, has_part, label, drawn_dominoes, drawn_set, breaks_at, breaks_between, pair_below, breach}
+use Rattle.drawings.proofs.Ranges.{label_lt, roles_lt}
 use Rattle.drawings.proofs.Keeping.{projection_same}
 use Rattle.interpretation.specs.Answers.{file_says, file_leaves}
 
@@ -44,16 +45,12 @@ module _ (v w : View) (a : Agree v w) where
     unfolding roles_between
     roles_same x y = ap (λ (L : ℕ). role_set L (connects d.connections) x y) a.roles
 
-    roles_few : (x y : ℕ) → roles_between v d x y < 2 ^ (2 * v.roles)
-    unfolding roles_between role_set
-    roles_few x y = word_lt (2 * v.roles) _
-
     -- what is asked of the individuals that x leads to, by a restriction
     asked : (x k n : ℕ) → k < v.parts → 2 ≤ n → eqb (v.kind k) n ≡ true → (y : ℕ)
         → (v.holds k (roles_between v d x y) ≡ w.holds k (roles_between w d x y)) × (v.has k (names_at d y) ≡ w.has k (names_at d y))
     asked x k n h l e y =
         let i : v.kind k ≡ n = eqb-true _ _ e in (
-          a.holds k (roles_between v d x y) h (roles_few x y) ∙ ap (w.holds k) (roles_same x y),
+          a.holds k (roles_between v d x y) h (roles_lt v d x y) ∙ ap (w.holds k) (roles_same x y),
           a.has k (names_at d y) h (omega arith),
         )
 
@@ -72,10 +69,6 @@ module _ (v w : View) (a : Agree v w) where
     unfolding label
     label_same x = word_ext v.parts _ _ (has_same x) ∙ ap (λ (c : ℕ). word c (has_part w d x)) a.parts
 
-    label_few : (x : ℕ) → label v d x < 2 ^ v.parts
-    unfolding label
-    label_few x = word_lt v.parts _
-
     dominoes_same : (A R B : ℕ) → drawn_dominoes v d A R B ≡ drawn_dominoes w d A R B
     unfolding drawn_dominoes
     dominoes_same A R B =
@@ -91,11 +84,11 @@ module _ (v w : View) (a : Agree v w) where
 
     at_same : (x : ℕ) → breaks_at v d x ≡ breaks_at w d x
     unfolding breaks_at
-    at_same x = ap not (a.good (label v d x) (label_few x) ∙ ap w.good (label_same x))
+    at_same x = ap not (a.good (label v d x) (label_lt v d x) ∙ ap w.good (label_same x))
 
     between_same : (x y : ℕ) → breaks_between v d x y ≡ breaks_between w d x y
     unfolding breaks_between
-    between_same x y = ap not (a.closed (roles_between v d x y) (roles_few x y) ∙ ap w.closed (roles_same x y))
+    between_same x y = ap not (a.closed (roles_between v d x y) (roles_lt v d x y) ∙ ap w.closed (roles_same x y))
 
     pub breach_same : breach v d ≡ breach w d
     unfolding breach pair_below

@@ -13,7 +13,7 @@ use Rattle.bitset.proofs.Laws.{word_lt, word_ext, word_bits, word_past, bit_word
 use Rattle.elimination.specs.Sets.{every, some}
 use Rattle.elimination.proofs.Quantifiers.{all-at, all_intro, all_same, any_same, not_any}
 use Rattle.semantics.specs.Conditions.{View}
-use Rattle.semantics.proofs.Projecting.{role_lt}
+use Rattle.drawings.proofs.Ranges.{roles_lt}
 use Rattle.drawings.specs.Entries.{entries_of, names_of}
 use Rattle.drawings.specs.Checking.{is_plain, file_fault, names_at, roles_between, has_part, label}
 use Rattle.drawings.proofs.Faultless.{names-plain}
@@ -98,7 +98,7 @@ module _ (d : Drawing) where
     unfolding roles_between
     reaches_as k y h l =
         ap (λ (r : ℕ). bit (get_or t.holds r 0) k) (R.bytes y l)
-        ∙ ap (λ (w : ℕ). bit w k) (T.holds (roles_between v (drawn d) x y) (role_lt _ x y v.roles))
+        ∙ ap (λ (w : ℕ). bit w k) (T.holds (roles_between v (drawn d) x y) (roles_lt v (drawn d) x y))
         ∙ bit_word v.parts _ k h
 
     filled_as : (k y : ℕ) → k < v.parts → y < count_of d → bit (get_or t.fillers y 0) k ≡ v.has k (names_at (drawn d) y)

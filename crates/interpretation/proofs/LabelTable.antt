@@ -6,23 +6,19 @@ use Prim.Native.Nat.{ℕ, ◌+◌, ◌^◌, ◌<◌}
 use native.Mathlib.Omega.{arith}
 use lib.ListN.{get_or, set, length-set}
 use Rattle.bitset.specs.Bits.{look}
-use Rattle.bitset.proofs.Laws.{word_lt}
-use Rattle.drawings.specs.Checking.{has_part, label, breaks_at}
+use Rattle.drawings.specs.Checking.{label, breaks_at}
+use Rattle.drawings.proofs.Ranges.{label_lt}
 use Rattle.domino_conditions.proofs.Rows.{few_labels}
 use Rattle.interpretation.specs.declared.drawing.Drawing.{Drawing}
 use Rattle.interpretation.specs.Drawings.{view_of, drawn, Labelled}
 use Rattle.interpretation.proofs.Making.{set_next}
 
 module _ (d : Drawing) (x : ℕ) where
-  pub label_few : label (view_of d) (drawn d) x < 2 ^ d.base.now.size.parts
-  unfolding label
-  label_few = word_lt d.base.now.size.parts (has_part (view_of d) (drawn d) x)
-
   module _ (labels : List ℕ) (n r : ℕ) (L : Labelled d labels n) (h : x < n) (e : r ≡ get_or labels x 0) where
     pub label_small : r < 4096
     label_small =
         let few = d.base.now.size.within in
-        few_labels d.base.now.size.parts r (omega (arith, few)) (subst (λ (a : ℕ). a < 2 ^ d.base.now.size.parts) (sym (e ∙ L.are x h)) label_few)
+        few_labels d.base.now.size.parts r (omega (arith, few)) (subst (λ (a : ℕ). a < 2 ^ d.base.now.size.parts) (sym (e ∙ L.are x h)) (label_lt (view_of d) (drawn d) x))
 
     -- the test of the table's label tells whether the individual breaks an axiom
     pub breaks_as : (b : Bool) → b ≡ look d.base.now.good r → breaks_at (view_of d) (drawn d) x ≡ not b

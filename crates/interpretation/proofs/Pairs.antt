@@ -1,19 +1,18 @@
 -- Laws of the first pair with a breach of those that begin below a bound: one individual more, later bounds, and all individuals.
 use mathlib.Core.Path.{◌≡◌, refl, sym, ap, ◌∙◌}
-use mathlib.Core.Bool.{Bool, true, false, not, false≢true}
+use mathlib.Core.Bool.{Bool, true, false, not}
 use mathlib.Core.List.{List}
 use Prim.Native.Nat.{ℕ, ◌+◌, ◌*◌, ◌^◌, ◌≤◌, ◌<◌}
 use native.Mathlib.Decide.{dec_lt}
 use native.Mathlib.Omega.{arith}
 use borrow.Author.Tests.{lt-ltb, le-ltb}
-use Rattle.bitset.proofs.Facts.{is_false}
-use Rattle.elimination.specs.Sets.{every, some}
-use Rattle.elimination.proofs.Quantifiers.{all-at, any_found}
+use Rattle.elimination.specs.Sets.{every}
+use Rattle.elimination.proofs.Quantifiers.{all-at}
 use Rattle.semantics.specs.Conditions.{View}
-use Rattle.semantics.proofs.Projecting.{role_lt}
 use Rattle.drawings.specs.Entries.{Drawing as DrawingOf}
-use Rattle.drawings.specs.Checking.{connects, Breach, unbroken, between, least, individuals, roles_between, breaks_between, pair_below, pair_breach}
-use Rattle.drawings.proofs.Breaches.{least_none, least_past, least_here, least_right, least_later, least_fails, least_some}
+use Rattle.drawings.specs.Checking.{Breach, unbroken, between, least, individuals, roles_between, breaks_between, pair_below, pair_breach}
+use Rattle.drawings.proofs.Breaches.{some_from, none_from, least_none, least_past, least_here, least_right, least_later, least_fails, least_some}
+use Rattle.drawings.proofs.Ranges.{roles_lt}
 use Rattle.drawing_rows.specs.Rows.{byte_at}
 use Rattle.interpretation.specs.declared.drawing.Drawing.{Drawing}
 use Rattle.interpretation.specs.declared.drawing.Finding.{Finding}
@@ -37,51 +36,47 @@ module _ (v : View) (d : DrawingOf) where
   abbrev n : ℕ
   n = individuals v d
 
-  -- does some pair that begins with x break
-  abbrev breaks_from : ℕ → Bool
-  breaks_from x = some n (breaks_between v d x)
-
   -- with no pair before m, no individual before m breaks
-  none_below : (m : ℕ) → pair_below v d m ≡ unbroken → least m breaks_from ≡ m
+  none_below : (m : ℕ) → pair_below v d m ≡ unbroken → least m (some_from v d) ≡ m
   unfolding pair_below
-  none_below m e = go (dec_lt (least m breaks_from) m)
+  none_below m e = go (dec_lt (least m (some_from v d)) m)
     where
-      go : Dec (least m breaks_from < m) → least m breaks_from ≡ m
-      go (yes h) = absurd (cc (lt-ltb (least m breaks_from) m h))
-      go (no h) = omega (arith, (least_right breaks_from m).within)
+      go : Dec (least m (some_from v d) < m) → least m (some_from v d) ≡ m
+      go (yes h) = absurd (cc (lt-ltb (least m (some_from v d)) m h))
+      go (no h) = omega (arith, (least_right (some_from v d) m).within)
 
   -- before the first individual there is none
   pub pair_none : pair_below v d 0 ≡ unbroken
   unfolding pair_below
-  pair_none = rw (least_none breaks_from) refl
+  pair_none = rw (least_none (some_from v d)) refl
 
   -- individual m is the next, of k: it breaks with none, or with y first
   module _ (m k : ℕ) (e : pair_below v d m ≡ unbroken) (all : n ≡ k) where
     pub pair_past : least k (breaks_between v d m) ≡ k → pair_below v d (m + 1) ≡ unbroken
     unfolding pair_below
     pair_past h =
-        let f : breaks_from m ≡ false = sym (least_some (breaks_between v d m) n) ∙ rw (all, h) (le-ltb k k (omega arith)) in
-        rw (least_past breaks_from m (none_below m e) f, le-ltb (m + 1) (m + 1) (omega arith)) refl
+        let f : some_from v d m ≡ false = sym (least_some (breaks_between v d m) n) ∙ rw (all, h) (le-ltb k k (omega arith)) in
+        rw (least_past (some_from v d) m (none_below m e) f, le-ltb (m + 1) (m + 1) (omega arith)) refl
 
     pub pair_here : (y : ℕ) → (y < k) × (least k (breaks_between v d m) ≡ y) → between m y ≡ pair_below v d (m + 1)
     unfolding pair_below
     pair_here y h =
-        let f : breaks_from m ≡ true = sym (least_some (breaks_between v d m) n) ∙ rw (all, h.1) (lt-ltb y k h.0) in
-        rw (least_here breaks_from m (none_below m e) f, lt-ltb m (m + 1) (omega arith), all, h.1) refl
+        let f : some_from v d m ≡ true = sym (least_some (breaks_between v d m) n) ∙ rw (all, h.1) (lt-ltb y k h.0) in
+        rw (least_here (some_from v d) m (none_below m e) f, lt-ltb m (m + 1) (omega arith), all, h.1) refl
 
   -- a pair that was found stays
   pub pair_stays : (m k : ℕ) (b : Breach) → m ≤ k → (b ≡ unbroken → ⊥) → b ≡ pair_below v d m → b ≡ pair_below v d k
   unfolding pair_below
-  pair_stays m k b h q e = go (dec_lt (least m breaks_from) m)
+  pair_stays m k b h q e = go (dec_lt (least m (some_from v d)) m)
     where
-      go : Dec (least m breaks_from < m) → b ≡ pair_below v d k
+      go : Dec (least m (some_from v d) < m) → b ≡ pair_below v d k
       go (yes l) =
           e ∙ rw (
-            lt-ltb (least m breaks_from) m l,
-            least_later breaks_from m k h l,
-            lt-ltb (least m breaks_from) k (omega arith),
+            lt-ltb (least m (some_from v d)) m l,
+            least_later (some_from v d) m k h l,
+            lt-ltb (least m (some_from v d)) k (omega arith),
           ) refl
-      go (no l) = absurd (q (e ∙ rw (le-ltb (least m breaks_from) m (omega arith)) refl))
+      go (no l) = absurd (q (e ∙ rw (le-ltb (least m (some_from v d)) m (omega arith)) refl))
 
   -- below all individuals it is the first of all
   pub pair_all : (m : ℕ) (b : Breach) → m ≡ n → b ≡ pair_below v d m → b ≡ pair_breach v d
@@ -90,13 +85,9 @@ module _ (v : View) (d : DrawingOf) where
   -- where all role sets are closed, no pair breaks
   module _ (c : every (2 ^ (2 * v.roles)) v.closed ≡ true) where
     none_breaks : (x y : ℕ) → breaks_between v d x y ≡ false
-    unfolding breaks_between roles_between
-    none_breaks x y = ap not (all-at _ v.closed c (roles_between v d x y) (role_lt (connects d.connections) x y v.roles))
-
-    none_from : (x : ℕ) → breaks_from x ≡ false
-    none_from x =
-        is_false (breaks_from x) (λ e. let w = any_found n (breaks_between v d x) e in false≢true (sym (none_breaks x w.0) ∙ w.2))
+    unfolding breaks_between
+    none_breaks x y = ap not (all-at _ v.closed c (roles_between v d x y) (roles_lt v d x y))
 
     pub pair_closed : (m : ℕ) → pair_below v d m ≡ unbroken
     unfolding pair_below
-    pair_closed m = rw (least_fails breaks_from m (λ x l. none_from x), le-ltb m m (omega arith)) refl
+    pair_closed m = rw (least_fails (some_from v d) m (λ x l. none_from v d x (λ y h. none_breaks x y)), le-ltb m m (omega arith)) refl

@@ -12,7 +12,7 @@ use borrow.Author.Tests.{eq-eqb, eqb-true}
 use Rattle.bitset.specs.Bits.{bit, look, are_words, inserted}
 use Rattle.bitset.specs.Runs.{Emptied}
 use Rattle.bitset.proofs.Facts.{is_false, iff_eq, and_l, and_r_lem, and_i, and_out}
-use Rattle.bitset.proofs.Laws.{word_lt, bit_past}
+use Rattle.bitset.proofs.Laws.{bit_past}
 use Rattle.bitset.proofs.RunLaws.{words-room}
 use Rattle.elimination.specs.Sets.{some}
 use Rattle.elimination.specs.Calls.{written}
@@ -22,9 +22,9 @@ use Rattle.semantics.specs.Dominoes.{total, number, left_of, roles_of, right_of_
 use Rattle.semantics.specs.Conditions.{dominoes, held}
 use Rattle.semantics.specs.Projection.{projection_of}
 use Rattle.semantics.proofs.Numbers.{number_lt, left-number, roles-number, right-number, number_of}
-use Rattle.semantics.proofs.Projecting.{role_lt}
 use Rattle.domino_conditions.specs.Tables.{Room, Enough}
-use Rattle.drawings.specs.Checking.{connects, roles_between, has_part, label, drawn_dominoes, drawn_set}
+use Rattle.drawings.specs.Checking.{roles_between, label, drawn_dominoes, drawn_set}
+use Rattle.drawings.proofs.Ranges.{label_lt, roles_lt}
 use Rattle.drawing_rows.specs.Rows.{byte_at, Joins}
 use Rattle.drawing_rows.proofs.Joining.{joins_none, joins_insert, joins_both}
 use Rattle.interpretation.specs.declared.drawing.Drawing.{Drawing}
@@ -59,11 +59,10 @@ module _ (d : Drawing) where
 
   module _ (x y : ℕ) where
     between_domino : Domino c L (label (view_of d) (drawn d) x) (roles_between (view_of d) (drawn d) x y) (label (view_of d) (drawn d) y)
-    unfolding label roles_between
     between_domino = record {
-      left = word_lt c (has_part (view_of d) (drawn d) x);
-      roles = role_lt (connects (drawn d).connections) x y L;
-      right = word_lt c (has_part (view_of d) (drawn d) y);
+      left = label_lt (view_of d) (drawn d) x;
+      roles = roles_lt (view_of d) (drawn d) x y;
+      right = label_lt (view_of d) (drawn d) y;
     }
 
     between_lt : number_between d x y < total c L

@@ -1,6 +1,6 @@
 -- The successors of an individual, by the individuals that its row leads to.
 use mathlib.Core.Path.{◌≡◌, refl, sym, ap, ap₂, ◌∙◌}
-use mathlib.Core.Bool.{Bool, true, false, not, ◌&&◌, ◌||◌}
+use mathlib.Core.Bool.{Bool, false, not, ◌&&◌, ◌||◌, or_comm}
 use mathlib.Core.List.{List}
 use Prim.Native.Nat.{ℕ, zero, suc, ◌+◌, ◌-◌, ◌*◌, ◌/◌, ◌%◌, ◌^◌, ◌≤◌, ◌<◌}
 use native.Mathlib.Decide.{dec_lt}
@@ -20,13 +20,7 @@ pub some_next : (n : ℕ) (f : ℕ → Bool) → some (n + 1) f ≡ (some n f ||
 unfolding some
 some_next n f =
     let e : n + 1 ≡ suc n = omega arith in
-    ap (λ (m : ℕ). some m f) e ∙ swap (f n) (some n f)
-  where
-    swap : (a b : Bool) → (a || b) ≡ (b || a)
-    swap true true = refl
-    swap true false = refl
-    swap false true = refl
-    swap false false = refl
+    ap (λ (m : ℕ). some m f) e ∙ or_comm (f n) (some n f)
 
 -- none more
 pub some_skip : (n m : ℕ) (f : ℕ → Bool) → n ≤ m → ((y : ℕ) → n ≤ y → y < m → f y ≡ false) → some m f ≡ some n f

@@ -61,8 +61,8 @@ rows_set d m n = some m (λ x. row_set d x n)
 abbrev pub NoPair : Drawing → ℕ → Type 0
 NoPair d m = pair_below (view_of d) (drawn d) m ≡ unbroken
 
-abbrev pub FirstPair : Drawing → ℕ → Finding → Type 0
-FirstPair d m f = finding_is f ≡ pair_below (view_of d) (drawn d) m
+abbrev pub PairBelow : Drawing → ℕ → Finding → Type 0
+PairBelow d m f = finding_is f ≡ pair_below (view_of d) (drawn d) m
 
 -- the least number below n that passes a test, if any does
 abbrev pub FindsLeast : ℕ → Set → Option ℕ → Type 0

@@ -27,7 +27,7 @@ impl Drawing<'_> {
     ghost use Rattle.drawings.specs.Checking.{breaks_between};
     ghost use Rattle.drawing_rows.specs.Rows.{Joins};
     ghost use Rattle.interpretation.specs.Drawings.{view_of, drawn, count_of, RowOf, BlockOf, AllLabelled, row_set, rows_set};
-    ghost use Rattle.interpretation.specs.Drawings.{NoPair, FirstPair, FindsLeast, PutsAll};
+    ghost use Rattle.interpretation.specs.Drawings.{NoPair, PairBelow, FindsLeast, PutsAll};
 
     // Puts the dominoes of x with each individual in, by the row of x and all labels.
     fn put_row(&self, row: &[u64], x: usize, labels: &[u16; 1024], set: &mut [u64])
@@ -76,7 +76,7 @@ impl Drawing<'_> {
     // The first pair that breaks a role inclusion, of those that begin in a block, if none begins before it.
     fn pair_in_block(&self, block: &[u64; 16384], start: usize, count: usize) -> Finding
         requires { BlockOf self.now start block.now count }
-        ensures { NoPair self.now start → FirstPair self.now (start + count) result }
+        ensures { NoPair self.now start → PairBelow self.now (start + count) result }
     {
         for i in 0..count {
             let row = &block[i << 7..(i << 7) + 128];
@@ -97,7 +97,7 @@ impl Drawing<'_> {
         count: usize,
     ) -> Finding
         requires { BlockOf self.now start block.now count }
-        ensures { FirstPair self.now start found → FirstPair self.now (start + count) result }
+        ensures { PairBelow self.now start found → PairBelow self.now (start + count) result }
     {
         match found {
             Finding::Holds => {

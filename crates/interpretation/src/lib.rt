@@ -40,16 +40,16 @@ impl Drawing<'_> {
 }
 
 // Document 02's check of a drawn plant: refuses, or writes the plant's dominoes and answers where it breaks the sheet first.
-pub fn check_plant(sheet: &[u8], plant: &[u8], set: &mut [u64]) -> Result<Finding, Refusal>
-    ensures { ChecksPlant (read_kb limit sheet.now) plant.now set.old set.new result }
+pub fn check_plant(sheet: &[u8], file: &[u8], set: &mut [u64]) -> Result<Finding, Refusal>
+    ensures { ChecksPlant (read_kb limit sheet.now) file.now set.old set.new result }
 {
     let base = load_for(sheet, set.len())?;
     let mut names = [0u16; MOST_INDIVIDUALS];
     let plain = parts_of(&base, None);
-    let count = read_individuals(plant, usize::from(plain), base.size.roles, &mut names)?;
+    let count = read_individuals(file, usize::from(plain), base.size.roles, &mut names)?;
     let drawing = Drawing {
         base: &base,
-        file: plant,
+        file,
         names: &names[..count],
     };
     Ok(drawing.check(set))

@@ -5,12 +5,9 @@ use bench::plain;
 use bench::plants::{names, Plant};
 use comparison::random::Random;
 use comparison::suites::{report, times};
-use comparison::{few_axioms, made_up};
+use comparison::{few_axioms, made_up, REFUSALS};
 use lodhrussi::PlantCheck;
 use std::fmt;
-
-/// One more than the largest number of a refusal.
-const REFUSALS: usize = 26;
 
 /// What was compared and found.
 #[derive(Default)]

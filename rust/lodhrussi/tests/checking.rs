@@ -4,7 +4,7 @@
 use comparison::random::Random;
 use comparison::suites::{report, times};
 use comparison::worked::{from_hex, S6};
-use comparison::{damage, few_axioms, made_up};
+use comparison::{damage, few_axioms, made_up, REFUSALS};
 use lodhrussi::{check_plant, Call, PlantCheck, Refusal};
 
 /// The words that a set of a sheet without faults takes.
@@ -231,7 +231,7 @@ fn assert_answered(sheet: &[u8], plant: &[u8], before: &[u64]) -> u64 {
 #[test]
 fn any_bytes_are_answered() {
     let mut random = Random::seeded(24);
-    let mut answered = [0; 26];
+    let mut answered = [0; REFUSALS];
     for turn in 0..times(30_000) {
         let sheet = match turn % 4 {
             0 => damage::damaged(&mut random),

@@ -20,7 +20,8 @@ const WITH_FRESH: [&str; 3] = [
     "03 00 10 00 11 00 08 01 00 07 02 03 01 20 05 04 21 01 02",
 ];
 
-/// The most bits that tell the plants of a sheet and of a size apart.
+/// The most bits that tell the plants of a sheet and of a size apart: all sizes but
+/// three individuals with two roles.
 const MOST_BITS: usize = 17;
 
 /// By names and connections alone: whether the plant holds with some choice of
@@ -115,7 +116,8 @@ impl fmt::Display for Every {
     }
 }
 
-/// Every plant of one to three individuals of sixteen sheets.
+/// Every plant of one to three individuals of sixteen sheets, of one or two where
+/// there are two roles.
 ///
 /// # Panics
 ///

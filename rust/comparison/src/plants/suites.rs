@@ -94,6 +94,8 @@ pub fn large_sheets(engine: &impl Checking) -> Tally {
     assert!(tally.holds.joined >= 350, "{tally}");
     assert!(tally.individuals.count >= 1_500, "{tally}");
     assert!(tally.pairs.count >= 200, "{tally}");
+    let of_numbers = Case::OF_NUMBERS.map(|case| tally.of_case(case));
+    assert!(of_numbers.iter().all(|&count| count >= 75), "{tally}");
     tally
 }
 

@@ -92,6 +92,11 @@ pub struct Pairs {
     pub several: u64,
 }
 
+fn place_of(case: Case) -> usize {
+    let place = Case::ALL.iter().position(|&other| other == case);
+    place.expect("one of all")
+}
+
 impl Tally {
     /// Counts a sheet that is accepted.
     pub fn count_sheet(&mut self, sheet: &[u8], counts: Counts) {
@@ -107,8 +112,17 @@ impl Tally {
     ///
     /// If that is none of all.
     pub fn count_case(&mut self, case: Case) {
-        let place = Case::ALL.iter().position(|&other| other == case);
-        self.cases[place.expect("one of all")] += 1;
+        self.cases[place_of(case)] += 1;
+    }
+
+    /// How many files have that fault.
+    ///
+    /// # Panics
+    ///
+    /// If that is none of all.
+    #[must_use]
+    pub fn of_case(&self, case: Case) -> u64 {
+        self.cases[place_of(case)]
     }
 
     /// Compares the call with a set that is long enough.
