@@ -1,7 +1,7 @@
 -- The documents' numbers for refusals (01, "The calls, and what each refuses"; 02), and an answer or a refusal as numbers.
 use Rattle.std.specs.Prelude.{ℕ, List, [], ◌∷◌, Result, Ok, Err}
 use Rattle.refusals.specs.declared.Reason.{Reason}
-use Rattle.refusals.specs.declared.Reason.TheVariants.{UnknownKind, BodyCutOff, TooManyRecords, NumberTooLarge, NotEarlier, RoleForConcept, NamedAgain, EmptyRoles, TooManyParts, SetTooShort, NoSuchDomino, ListTooShort, SlotTooLong, QueueCutOff, ConceptForRole, AxiomNamed, UnknownWord, MisplacedWord, BeyondText, OutputTooShort, UnreadableEntry, TooManyIndividuals, NoSuchNumber, NoIndividuals}
+use Rattle.refusals.specs.declared.Reason.TheVariants.{UnknownKind, BodyCutOff, TooManyRecords, NumberTooLarge, NotEarlier, RoleForConcept, NamedAgain, EmptyRoles, TooManyParts, SetTooShort, NoSuchDomino, ListTooShort, SlotTooLong, QueueCutOff, ConceptForRole, AxiomNamed, UnknownWord, MisplacedWord, BeyondText, OutputTooShort, UnreadableEntry, TooManyIndividuals, NoSuchNumber, NoIndividuals, EmptySet, TooManyMembers}
 use Rattle.refusals.specs.declared.Refusal.{Refusal}
 
 abbrev pub number : Reason → ℕ
@@ -37,6 +37,9 @@ number UnreadableEntry = 22
 number TooManyIndividuals = 23
 number NoSuchNumber = 24
 number NoIndividuals = 25
+-- 02, N11: "26, no survivors; 27, m above 341"
+number EmptySet = 26
+number TooManyMembers = 27
 
 -- a refusal as numbers: its own and its place
 abbrev pub refusal_numbers : Refusal → List ℕ

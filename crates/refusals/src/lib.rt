@@ -31,6 +31,8 @@ pub enum Reason {
     TooManyIndividuals = 23,
     NoSuchNumber = 24,
     NoIndividuals = 25,
+    EmptySet = 26,
+    TooManyMembers = 27,
 }
 
 impl Reason {
