@@ -187,7 +187,8 @@ module _ (L m : ℕ) (a r b : ℕ → ℕ) where
   back_at k x y h (inr e) (inl f) = rw (roles_on y x f, roles_back x y e f) (sym (inverse-odd L (r (x % m)) k h))
   back_at k x y h (inr e) (inr f) = rw (roles-none x y e f, roles-none y x f e) (no_bit (2 * k) ∙ sym (no_bit (2 * k + 1)))
 
-  module _ (incl : List RoleInclusion) (fs : List Flat) (ps : List Part) (D : Dominoes) (stable : Stable (view_of L incl fs ps) D) (E : Enumerates D m a r b) (pos : 0 < m) where
+  module _ (incl : List RoleInclusion) (fs : List Flat) (ps : List Part) (D : Dominoes)
+      (stable : Stable (view_of L incl fs ps) D) (E : Enumerates D m a r b) (pos : 0 < m) where
     own : (x : ℕ) → D (a (x % m)) (r (x % m)) (b (x % m)) ≡ true
     own x = E.each (x % m) (mod-lt x pos)
 
@@ -220,7 +221,8 @@ module _ (L m : ℕ) (a r b : ℕ → ℕ) where
         small : (g : ℕ) → j < m → g ≤ 2 → g * m + j < 3 * m
         small g h l = omega (arith, mul-le-mul_right m l)
 
-    layers_step : (x R B : ℕ) → x < 3 * m → D (label_at m b x) R B ≡ true → (y : ℕ) × (y < 3 * m) × (roles_at L m a r b x y ≡ R) × (label_at m b y ≡ B)
+    layers_step : (x R B : ℕ) → x < 3 * m → D (label_at m b x) R B ≡ true
+        → (y : ℕ) × (y < 3 * m) × (roles_at L m a r b x y ≡ R) × (label_at m b y ≡ B)
     unfolding label_at
     layers_step x R B l d =
         let w = E.all (b (x % m)) R B d in

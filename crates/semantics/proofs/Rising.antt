@@ -4,12 +4,13 @@ use native.Mathlib.Omega.{arith}
 use native.Mathlib.Decide.{dec_le, ℕ_discrete}
 use lib.ListN.{length, get_or, length-append, get_or-append}
 use lib.Seq.{get_or-append_seam}
-use mathlib.Core.Path.{◌≡◌, sym, ap, ◌∙◌, subst}
+use mathlib.Core.Path.{◌≡◌, refl, sym, ap, ◌∙◌, subst}
 use mathlib.Core.Logic.{◌⊎◌, inl, inr}
-use mathlib.Core.Bool.{true, false, false≢true}
+use mathlib.Core.Bool.{true, false, cond, false≢true}
 use mathlib.Core.List.{List, [], ◌∷◌, ◌++◌, append-nil}
-use Rattle.bitset.specs.Bits.{Set}
-use Rattle.bitset.proofs.Facts.{dec}
+use Rattle.bitset.specs.Bits.{Set, size}
+use Rattle.bitset.proofs.Facts.{dec, below_suc}
+use Rattle.elimination.specs.Sets.{Same}
 use Rattle.semantics.specs.Dominoes.{Dominoes, total, number, left_of, roles_of, right_of_lem, unnumbered}
 use Rattle.semantics.specs.Conditions.{View, InRange, dominoes, canon, canon_dominoes}
 use Rattle.semantics.specs.Layers.{Enumerates, rising}
@@ -17,11 +18,11 @@ use Rattle.semantics.proofs.Numbers.{number_lt, left-number, roles-number, right
 use Rattle.semantics.proofs.Canonical.{dominoes_of, of_unnumbered, canon-largest}
 
 -- one more number is a member, or not
-with_one : (S : Set) (n : ℕ) → S n ≡ true → rising S (suc n) ≡ rising S n ++ (n ∷ [])
+pub with_one : (S : Set) (n : ℕ) → S n ≡ true → rising S (suc n) ≡ rising S n ++ (n ∷ [])
 unfolding rising
 with_one S n e = rw e
 
-with_none : (S : Set) (n : ℕ) → S n ≡ false → rising S (suc n) ≡ rising S n
+pub with_none : (S : Set) (n : ℕ) → S n ≡ false → rising S (suc n) ≡ rising S n
 unfolding rising
 with_none S n e = rw e (append-nil (rising S n))
 
@@ -132,3 +133,45 @@ pub canon_enumerates : (v : View) → Lists v (canon_dominoes v) (rising (canon 
 unfolding canon_dominoes dominoes_of
 canon_enumerates v =
     rising_enumerates v (canon_dominoes v) (canon-largest v).inside (canon v) (λ n h. sym (of_unnumbered v (canon v) n h))
+
+-- ---- of numbers that are none, and how many there are
+
+module _ (S : Set) where
+  pub rising_size : (n : ℕ) → length (rising S n) ≡ size n S
+  unfolding size
+  rising_size = listed S (λ n l. length l ≡ size n S) refl
+      (λ n l h e. rw e (omega (arith, length-append l (n ∷ []), h))) (λ n l h e. rw e (omega (arith, h)))
+
+  -- numbers that are none
+  pub rising_over : (m n : ℕ) → m ≤ n → ((k : ℕ) → m ≤ k → k < n → S k ≡ false) → rising S n ≡ rising S m
+  rising_over m zero h f = let e : 0 ≡ m = omega arith in ap (rising S) e
+  rising_over m (suc n) h f =
+      below_suc m (suc n) (omega arith) (λ e. ap (rising S) (sym e))
+      (λ l. with_none S n (f n (omega arith) (omega arith)) ∙ rising_over m n (omega arith) (λ k i j. f k i (omega arith)))
+
+  pub rising_le : (m n : ℕ) → m ≤ n → length (rising S m) ≤ length (rising S n)
+  unfolding rising
+  rising_le m zero h = let e : m ≡ 0 = omega arith in rw e (omega arith)
+  rising_le m (suc n) h =
+      below_suc m (suc n) (omega arith) (λ e. rw e (omega arith))
+      (λ l. omega (arith, length-append (rising S n) (cond (S n) (n ∷ []) []), rising_le m n (omega arith)))
+
+  -- as many as rising members that are named
+  pub rising_many : (f : ℕ → ℕ) (k n : ℕ) → ((i : ℕ) → i < k → (f i < n) × (S (f i) ≡ true))
+      → ((i j : ℕ) → i < j → j < k → f i < f j) → k ≤ length (rising S n)
+  rising_many f zero n each up = omega arith
+  rising_many f (suc k) n each up =
+      let w = each k (omega arith) in
+      omega (
+        arith,
+        rising_many f k (f k) (λ i l. (up i k l (omega arith), (each i (omega (arith, l))).1)) (λ i j l h. up i j l (omega (arith, h))),
+        length-append (rising S (f k)) (f k ∷ []),
+        ap length (with_one S (f k) w.1),
+        rising_le (suc (f k)) n w.0,
+      )
+
+-- and sets with the same have them in the same order
+pub rising_same : (S T : Set) (n : ℕ) → Same n S T → rising S n ≡ rising T n
+unfolding rising
+rising_same S T zero e = refl
+rising_same S T (suc n) e = rw (rising_same S T n (λ i l. e i (omega (arith, l))), e n (omega arith)) refl
