@@ -48,6 +48,13 @@ unfolding projection_of
 projection_same I I' L c lab lab' e p q A R B =
     rw (← e) (any_same I.individuals _ _ (λ x l. any_same I.individuals _ _ (λ y h. rw (p x l, p y h, q x y l h) refl)))
 
+-- a part at an individual, by the roles of an interpretation; names and fresh names, which fillers are, by b
+unfoldable pub part_by : Interpretation → (ℕ → ℕ → Bool) → Part → ℕ → ℕ → Bool
+part_by I b (name_p t) x j = b x j
+part_by I b (fresh_p g a) x j = b x j
+part_by I b (exists_p g u f) x j = some I.individuals (λ y. role_in I.joined u x y && filler_in f (b y))
+part_by I b (forall_p g u f) x j = every I.individuals (λ y. not (role_in I.joined u x y) || filler_in f (b y))
+
 module _ (limit : ℕ) (sheet : List ℕ) (k : Kb) (e : read_kb limit sheet ≡ kb k) (d : Drawing) where
   abbrev v : View
   v = kb_view k
@@ -104,16 +111,16 @@ module _ (limit : ℕ) (sheet : List ℕ) (k : Kb) (e : read_kb limit sheet ≡ 
       go (exists_p g u f) h = absurd h
       go (forall_p g u f) h = absurd h
 
-  filler_bit : (f : Filler) → FillerLow (c) f → FillerPlain (part_at ps) f → (y : ℕ)
-      → filler_in f (bit (names_at d y)) ≡ filler_in f (bit (label v d y))
+  filler_same : (f : Filler) → FillerLow (c) f → FillerPlain (part_at ps) f → (a b : ℕ → Bool)
+      → ((j : ℕ) → j < c → Plain (part_at ps j) → a j ≡ b j) → filler_in f a ≡ filler_in f b
   unfolding filler_in
-  filler_bit (atomic everything) h p y = refl
-  filler_bit (atomic nothing) h p y = refl
-  filler_bit (atomic (name_a t)) h p y = plain_bit y t h p
-  filler_bit (fresh j) h p y = plain_bit y j h p
+  filler_same (atomic everything) h p a b same = refl
+  filler_same (atomic nothing) h p a b same = refl
+  filler_same (atomic (name_a t)) h p a b same = same t h p
+  filler_same (fresh j) h p a b same = same j h p
 
   -- a part that is no fresh name is in the list
-  part_there : (j : ℕ) (p : Part) → part_at ps j ≡ p → (kind_of p ≡ 1 → ⊥) → j < c
+  pub part_there : (j : ℕ) (p : Part) → part_at ps j ≡ p → (kind_of p ≡ 1 → ⊥) → j < c
   unfolding kind_of
   part_there j p q other = go (dec_lt j (c))
     where
@@ -137,13 +144,32 @@ module _ (limit : ℕ) (sheet : List ℕ) (k : Kb) (e : read_kb limit sheet ≡ 
   closed_at h x y lx ly = not-false (rbox_on k.inclusions (roles_between v d x y)) (h.pairs x y lx ly)
 
   module _ (I : Interpretation) (D : Draws k I d) where
-    pub roles_same : (u : Role) → RolesBelow k.roles u → (x y : ℕ) → x < n → y < n
+    roles_same : (u : Role) → RolesBelow k.roles u → (x y : ℕ) → x < n → y < n
         → role_in (connects d.connections) u x y ≡ role_in I.joined u x y
     unfolding roles_between
     roles_same u h x y lx ly =
         sym (role_in_lem (connects d.connections) x y k.roles u h)
         ∙ ap (role_on u) (sym (D.roles x y (omega (arith, D.individuals)) (omega (arith, D.individuals))))
         ∙ role_in_lem I.joined x y k.roles u h
+
+    -- a part is read by names and fresh names that are the drawn ones
+    pub part_read : (b : ℕ → ℕ → Bool) → ((y i : ℕ) → y < n → i < c → Plain (part_at ps i) → bit (names_at d y) i ≡ b y i)
+        → (x j : ℕ) → x < n → (Plain (part_at ps j) → bit (names_at d x) j ≡ b x j) → has_part v d x j ≡ part_by I b (part_at ps j) x j
+    unfolding part_drawn part_by
+    part_read b same x j l here = label_as_read x j ∙ go (part_at ps j) refl
+      where
+        go : (p : Part) → part_at ps j ≡ p → part_drawn d p j x ≡ part_by I b p x j
+        go (name_p t) q = here (rw q tt)
+        go (fresh_p g a) q = here (rw q tt)
+        go (exists_p g u f) q =
+            let w = part_bounds j (exists_p g u f) q in
+            rw D.individuals
+            (any_same n _ _ (λ y i. ap₂ ◌&&◌ (roles_same u w.0 x y l i) (filler_same f w.1 w.2 _ (b y) (λ j. same y j i))))
+        go (forall_p g u f) q =
+            let w = part_bounds j (forall_p g u f) q in
+            rw D.individuals
+            (all_same n _ _ (λ y i.
+            ap₂ (λ (r z : Bool). not r || z) (roles_same u w.0 x y l i) (filler_same f w.1 w.2 _ (b y) (λ j. same y j i))))
 
     labels_true : (fs : List Flat) → ((x : ℕ) → x < n → kb_on fs (label v d x) ≡ true)
         → All (λ f. (x : ℕ) → x < I.individuals → eval (bit (label v d x)) f ≡ true) fs
@@ -154,20 +180,22 @@ module _ (limit : ℕ) (sheet : List ℕ) (k : Kb) (e : read_kb limit sheet ≡ 
       labels_true fs (λ x l. and_r_lem (eval (bit (label v d x)) f) (kb_on fs (label v d x)) (h x l)),
     )
 
+    -- in a label a part that is no fresh name, by the label's own names and fresh names
+    label_by : (p : Part) → (kind_of p ≡ 1 → ⊥) → (x j : ℕ) → x < I.individuals → part_at ps j ≡ p
+        → bit (label v d x) j ≡ part_by I (λ y. bit (label v d y)) p x j
+    label_by p other x j l q =
+        let h : j < c = part_there j p q other in
+        label_bit x j h
+        ∙ part_read (λ y. bit (label v d y)) (λ y i m. plain_bit y i) x j (omega (arith, l, D.individuals)) (plain_bit x j h)
+        ∙ ap (λ (p : Part). part_by I (λ y. bit (label v d y)) p x j) q
+
     pub holds_labelling : NoneBreaks v d → Labelling I (part_at ps) (flats_of k) (λ x. bit (label v d x))
-    unfolding part_drawn kind_of
+    unfolding part_drawn part_by kind_of
     holds_labelling h = record {
       names = λ x t l q.
           label_bit x t (part_there t (name_p t) q (λ z. omega (arith, z))) ∙ label_as_read x t ∙ rw q (sym (D.names x t l q));
-      existentials = λ x j g u f l q.
-          let b = part_bounds j (exists_p g u f) q in
-          label_bit x j (part_there j (exists_p g u f) q (λ z. omega (arith, z))) ∙ label_as_read x j ∙ rw (q, D.individuals)
-          (any_same n _ _ (λ y i. ap₂ ◌&&◌ (roles_same u b.0 x y (omega (arith, D.individuals)) i) (filler_bit f b.1 b.2 y)));
-      universals = λ x j g u f l q.
-          let b = part_bounds j (forall_p g u f) q in
-          label_bit x j (part_there j (forall_p g u f) q (λ z. omega (arith, z))) ∙ label_as_read x j ∙ rw (q, D.individuals)
-          (all_same n _ _ (λ y i.
-          ap₂ (λ (r z : Bool). not r || z) (roles_same u b.0 x y (omega (arith, D.individuals)) i) (filler_bit f b.1 b.2 y)));
+      existentials = λ x j g u f l q. label_by (exists_p g u f) (λ z. omega (arith, z)) x j l q;
+      universals = λ x j g u f l q. label_by (forall_p g u f) (λ z. omega (arith, z)) x j l q;
       kb = labels_true (flats_of k) (good_at h);
     }
 

@@ -5,8 +5,11 @@ pub mod Ranges
 pub mod Breaches
 pub mod Inclusions
 pub mod Keeping
+pub mod InTurn
 pub mod Laying
 pub mod Recorded
 pub mod OwnFile
 pub mod AsWritten
+pub mod LayersKept
 pub mod Worked
+pub mod ManyMembers

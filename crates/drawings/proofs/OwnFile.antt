@@ -1,15 +1,15 @@
 -- An interpretation's own file: it has no fault, draws the interpretation, has its dominoes, and breaks nothing exactly if the
 -- interpretation is a model. Of a sheet that is read with a limit of at most 16, and at most 1,024 individuals; that it has no fault
 -- needs at least one.
-use Prim.Native.Nat.{ℕ, ◌*◌, ◌/◌, ◌%◌, ◌≤◌, ◌<◌}
+use Prim.Native.Nat.{ℕ, ◌≤◌, ◌<◌}
 use native.Mathlib.Decide.{dec_lt}
 use native.Mathlib.Nat.{lt_of_lt_of_le}
 use native.Mathlib.Omega.{arith}
-use mathlib.Core.Path.{◌≡◌, refl, sym, ap, ap₂, ◌∙◌, fun_ext}
+use mathlib.Core.Path.{◌≡◌, refl, sym, ap, ◌∙◌, fun_ext}
 use mathlib.Core.Logic.{◌↔◌}
-use mathlib.Core.Bool.{Bool, true, false, not, ◌&&◌, ◌||◌, cond, false≢true}
+use mathlib.Core.Bool.{Bool, true, false, not, ◌&&◌, ◌||◌, false≢true}
 use mathlib.Core.List.{List}
-use lib.Dec.{eqb, ltb}
+use lib.Dec.{ltb}
 use lib.ListN.{length, get_or, get_or-eq_default}
 use lib.Pow.{pow_mono}
 use borrow.Author.Tests.{lt-ltb}
@@ -17,26 +17,25 @@ use Rattle.bitset.specs.Bits.{bit}
 use Rattle.bitset.proofs.Laws.{word_lt, word_ext}
 use Rattle.bitset.proofs.Facts.{imp_i, and_i}
 use Rattle.elimination.specs.Sets.{every}
-use Rattle.elimination.proofs.Quantifiers.{all_intro, any_same, all_same}
-use Rattle.syntax.specs.Concepts.{Role}
+use Rattle.elimination.proofs.Quantifiers.{all_intro}
 use Rattle.syntax.specs.Flatten.{Part, name_p, fresh_p, exists_p, forall_p, no_part, part_at}
 use Rattle.syntax.specs.Parts.{kind_of}
-use Rattle.syntax.specs.Bounds.{All, RolesBelow, PartRole}
+use Rattle.syntax.specs.Bounds.{All}
 use Rattle.syntax.specs.Reading.{Kb, kb, parts_of, read_kb}
-use Rattle.syntax.proofs.Promised.{kb-small, kb-few, kb_part_roles}
-use Rattle.semantics.specs.Interpretations.{Interpretation, role_in, holds_nf, models}
+use Rattle.syntax.proofs.Promised.{kb-small, kb-few}
+use Rattle.semantics.specs.Interpretations.{Interpretation, holds_nf, models}
 use Rattle.semantics.specs.Conditions.{View}
-use Rattle.semantics.specs.Views.{filler_in, kb_view}
-use Rattle.semantics.specs.Projection.{plain_at, read_part, parts_in, role_bit, role_set, projection}
+use Rattle.semantics.specs.Views.{kb_view}
+use Rattle.semantics.specs.Projection.{plain_at, read_part, parts_in, role_set, projection}
 use Rattle.semantics.proofs.Projecting.{word-whole}
 use Rattle.semantics.proofs.Verdict.{model_dominoes}
 use Rattle.drawings.specs.Entries.{Entry, Drawing, drawing_of, first_fault, entries_of, names_of, connections_of}
 use Rattle.drawings.specs.Checking.{connects, names_at, interpretation, unbroken, is_plain, file_fault, roles_between, has_part, drawn_dominoes, breach}
 use Rattle.drawings.specs.Laid.{FitsBytes, own_names, own_entries, own_file}
-use Rattle.drawings.specs.Meanings.{part_drawn, Draws}
-use Rattle.drawings.proofs.Keeping.{projection_same, label_as_read, roles_same, holds_models, canonical_holds}
+use Rattle.drawings.specs.Meanings.{Draws}
+use Rattle.drawings.proofs.Keeping.{part_by, projection_same, part_read, holds_models, canonical_holds}
 use Rattle.drawings.proofs.Laying.{entries_laid, laid_small}
-use Rattle.drawings.proofs.Recorded.{recorded_length, recorded_name, recorded_joins, recorded_joined, recorded_fits, recorded_faultless}
+use Rattle.drawings.proofs.Recorded.{recorded_length, recorded_name, recorded_joins, recorded_joined, recorded_roles, recorded_fits, recorded_faultless}
 
 module _ (limit : ℕ) (sheet : List ℕ) (k : Kb) (e : read_kb limit sheet ≡ kb k) (low : limit ≤ 16)
     (I : Interpretation) (few : I.individuals ≤ 1024) where
@@ -134,10 +133,10 @@ module _ (limit : ℕ) (sheet : List ℕ) (k : Kb) (e : read_kb limit sheet ≡ 
   own_name x h = fun_ext (λ j. ap (λ (m : ℕ). bit m j) (own_names_at x h) ∙ own_bit x j)
 
   own_roles : (x y : ℕ) → x < n → y < n → role_set k.roles I.joined x y ≡ roles_between v d x y
-  unfolding role_set roles_between role_bit
+  unfolding roles_between own_entries
   own_roles x y lx ly =
-      word_ext (2 * k.roles) _ _ (λ b l. ap₂ (cond (eqb (b % 2) 0))
-      (sym (own_connects (b / 2) x y (omega (arith, l)) lx ly)) (sym (own_connects (b / 2) y x (omega (arith, l)) ly lx)))
+      recorded_roles n k.roles (own_names I k) I.joined x y lx ly
+      ∙ ap (λ (l : List Entry). role_set k.roles (connects (connections_of l)) x y) (sym own_read)
 
   pub own_drawn : Draws k I d
   unfolding plain_at
@@ -149,24 +148,19 @@ module _ (limit : ℕ) (sheet : List ℕ) (k : Kb) (e : read_kb limit sheet ≡ 
 
   -- a part of an individual's label holds of it
   pub own_part : (x j : ℕ) → x < n → has_part v d x j ≡ parts_in I (part_at (parts_of k)) x j
-  unfolding parts_in part_drawn read_part plain_at
-  own_part x j l = label_as_read limit sheet k e d x j ∙ go (part_at (parts_of k) j) refl (kb_part_roles limit sheet e j)
+  unfolding parts_in part_by read_part plain_at
+  own_part x j l =
+      part_read limit sheet k e d I own_drawn (λ y i. plain_at I (part_at (parts_of k) i) y)
+      (λ y i m h p. ap (λ (f : ℕ → Bool). f i) (own_name y (omega (arith, m, own_individuals))))
+      x j (omega (arith, l, own_individuals)) (λ p. ap (λ (f : ℕ → Bool). f j) (own_name x l))
+      ∙ go (part_at (parts_of k) j) refl
     where
-      named : (p : Part) → part_at (parts_of k) j ≡ p → bit (names_at d x) j ≡ plain_at I p x
-      named p q = ap (λ (f : ℕ → Bool). f j) (own_name x l) ∙ ap (λ (p : Part). plain_at I p x) q
-
-      role : (u : Role) → RolesBelow k.roles u → (y : ℕ) → y < n → role_in (connects d.connections) u x y ≡ role_in I.joined u x y
-      role u h y i =
-          roles_same limit sheet k e d I own_drawn u h x y (omega (arith, l, own_individuals)) (omega (arith, i, own_individuals))
-
-      go : (p : Part) → part_at (parts_of k) j ≡ p → PartRole (RolesBelow k.roles) p
-          → part_drawn d p j x ≡ read_part I (part_at (parts_of k)) p x
-      go (name_p t) q h = named (name_p t) q
-      go (fresh_p g b) q h = named (fresh_p g b) q
-      go (exists_p g u f) q h =
-          rw own_individuals (any_same n _ _ (λ y i. ap₂ ◌&&◌ (role u h y i) (ap (filler_in f) (own_name y i))))
-      go (forall_p g u f) q h =
-          rw own_individuals (all_same n _ _ (λ y i. ap₂ (λ (r z : Bool). not r || z) (role u h y i) (ap (filler_in f) (own_name y i))))
+      go : (p : Part) → part_at (parts_of k) j ≡ p
+          → part_by I (λ y i. plain_at I (part_at (parts_of k) i) y) p x j ≡ read_part I (part_at (parts_of k)) p x
+      go (name_p t) q = ap (λ (p : Part). plain_at I p x) q
+      go (fresh_p g b) q = ap (λ (p : Part). plain_at I p x) q
+      go (exists_p g u f) q = refl
+      go (forall_p g u f) q = refl
 
   -- its dominoes are those of the interpretation
   pub own_projection : (A R B : ℕ) → drawn_dominoes v d A R B ≡ projection I k A R B

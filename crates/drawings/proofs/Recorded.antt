@@ -1,7 +1,7 @@
 -- The records of individuals and of the connections between them: they have no fault, and draw just these.
-use Prim.Native.Nat.{ℕ, zero, suc, ◌+◌, ◌≤◌, ◌<◌}
+use Prim.Native.Nat.{ℕ, zero, suc, ◌+◌, ◌*◌, ◌/◌, ◌%◌, ◌≤◌, ◌<◌}
 use native.Mathlib.Omega.{arith}
-use mathlib.Core.Path.{◌≡◌, refl, sym, ap, subst, ◌∙◌}
+use mathlib.Core.Path.{◌≡◌, refl, sym, ap, ap₂, subst, ◌∙◌}
 use mathlib.Core.Logic.{⊎_elim}
 use mathlib.Core.Bool.{Bool, true, false, not, ◌&&◌, ◌||◌, cond, false≢true, or_assoc}
 use mathlib.Core.List.{List, [], ◌∷◌, ◌++◌, append-nil}
@@ -10,10 +10,12 @@ use lib.ListN.{length, get_or, length-append, get_or-append}
 use lib.Seq.{get_or_at}
 use borrow.Author.Tests.{eq-eqb, eqb-true, lt-leb, ne_eqb}
 use Rattle.bitset.specs.Bits.{Set, bit}
+use Rattle.bitset.proofs.Laws.{word_ext}
 use Rattle.bitset.proofs.Facts.{and_l, and_r_lem, and_i, or_case, or_l, or_r_lem, iff_eq, below_suc}
 use Rattle.elimination.specs.Sets.{every}
 use Rattle.syntax.specs.Bounds.{All}
 use Rattle.syntax.proofs.Promised.{all_append}
+use Rattle.semantics.specs.Projection.{role_bit, role_set}
 use Rattle.drawings.specs.Entries.{Connection, Entry, individual, connection, unreadable, individuals_after, entry_fault, first_fault, names_of, connections_of}
 use Rattle.drawings.specs.Checking.{connects}
 use Rattle.drawings.specs.Laid.{FitsBytes, in_turn, individual_entries, connection_entries, drawn_entries}
@@ -179,6 +181,13 @@ module _ (n L : ℕ) (names : ℕ → ℕ) (J : ℕ → ℕ → ℕ → Bool) wh
   recorded_joined k x y e =
       joining_found n L J (connection_entries n L J) (joining n L J) k x y
       (ap (λ (l : List Connection). connects l k x y) (sym recorded_connections) ∙ e)
+
+  pub recorded_roles : (x y : ℕ) → x < n → y < n
+      → role_set L J x y ≡ role_set L (connects (connections_of (drawn_entries n L names J))) x y
+  unfolding role_set role_bit
+  recorded_roles x y lx ly =
+      word_ext (2 * L) _ _ (λ b l. ap₂ (cond (eqb (b % 2) 0))
+      (sym (recorded_joins (b / 2) x y (omega (arith, l)) lx ly)) (sym (recorded_joins (b / 2) y x (omega (arith, l)) ly lx)))
 
   -- the numbers fit
   pub recorded_fits : n ≤ 65536 → L ≤ 256 → ((x : ℕ) → x < n → names x < 65536) → All FitsBytes (drawn_entries n L names J)

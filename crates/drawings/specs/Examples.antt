@@ -1,13 +1,15 @@
--- Worked drawings: a sheet and a file, what a check says, and the numbers of the drawn dominoes. Proved in proofs/Worked.antt.
-use Rattle.std.specs.Prelude.{ℕ, zero, suc, List, [], ◌∷◌, ◌++◌, cond, eqb}
+-- Worked drawings: a sheet and a file, what a check says, and the numbers of the drawn dominoes; a sheet and the file of its canonical set
+-- in three layers. Proved in proofs/Worked.antt.
+use Rattle.std.specs.Prelude.{ℕ, zero, suc, List, [], ◌∷◌, ◌++◌, cond, eqb, length}
 use Rattle.syntax.specs.Reading.{Reading, refusal, kb, read_kb}
 use Rattle.syntax.specs.Answers.{limit}
 use Rattle.syntax.specs.Examples.{s1, s5, s6}
-use Rattle.semantics.specs.Conditions.{View, dominoes}
+use Rattle.semantics.specs.Conditions.{View, dominoes, canon}
 use Rattle.semantics.specs.Views.{kb_view}
 use Rattle.semantics.specs.Layers.{rising}
 use Rattle.drawings.specs.Entries.{drawing_of}
-use Rattle.drawings.specs.Checking.{breach_numbers, file_fault, drawn_set, breach}
+use Rattle.drawings.specs.Checking.{breach_numbers, is_plain, file_fault, drawn_set, breach}
+use Rattle.drawings.specs.Layered.{layered_file}
 
 pub record Row : Type 0 where
   pub sheet : List ℕ
@@ -182,3 +184,105 @@ faults =
 
 abbrev pub table : List Row
 table = labels ++ roles ++ sets ++ firsts ++ faults
+
+-- ---- drawings in three layers (02, N11)
+
+-- a sheet, and the file of its canonical set
+pub record InLayers : Type 0 where
+  pub sheet : List ℕ
+  pub file : List ℕ
+
+abbrev pub in_layers : List ℕ → List ℕ → InLayers
+in_layers s f = record { sheet = s; file = f }
+
+-- the file, as the definitions have it
+abbrev pub view_file : View → List ℕ
+view_file v = layered_file v.parts v.roles (rising (canon v) (dominoes v)) (is_plain v)
+
+-- what f makes of a sheet; nothing of one that is refused
+abbrev of_reading : (View → List ℕ) → Reading → List ℕ
+of_reading f (refusal n p) = []
+of_reading f (kb k) = f (kb_view k)
+
+abbrev pub of_sheet : (View → List ℕ) → List ℕ → List ℕ
+of_sheet f s = of_reading f (read_kb limit s)
+
+abbrev pub drawn_in_layers : InLayers → InLayers
+drawn_in_layers r = in_layers r.sheet (of_sheet view_file r.sheet)
+
+-- the individuals of a layer, three times
+abbrev each_layer : List ℕ → List ℕ
+each_layer l = l ++ l ++ l
+
+-- three layers; a domino's right label; no restriction; a fresh name: everything is only k0 not t0, nothing is t0, and k0 is within not k0
+abbrev individuals : List InLayers
+individuals =
+    in_layers [] (each_layer (named 0x00)) ∷
+    in_layers (0x03 ∷ 0x00 ∷ []) (each_layer (named 0x00 ++ named 0x01 ++ named 0x00 ++ named 0x01)) ∷
+    in_layers only_nothing (each_layer (named 0x00)) ∷
+    in_layers
+    (0x01 ∷ 0x02 ∷ 0x03 ∷ 0x00 ∷ 0x10 ∷ 0x00 ∷ 0x12 ∷ 0x03 ∷ 0x04 ∷ 0x02 ∷ 0x08 ∷ 0x03 ∷ 0x05 ∷ 0x20 ∷ 0x00 ∷ 0x06 ∷
+    0x20 ∷ 0x02 ∷ 0x01 ∷ 0x21 ∷ 0x03 ∷ 0x04 ∷ [])
+    (each_layer (named 0x00 ++ named 0x04 ++ named 0x00 ++ named 0x04)) ∷
+    []
+
+abbrev one_role : List ℕ
+one_role = 0x10 ∷ 0x00 ∷ []
+
+abbrev one_role_file : List ℕ
+one_role_file =
+    each_layer (named 0x00 ++ named 0x00 ++ named 0x00 ++ named 0x00) ++
+    joining 0 5 0 ++ joining 0 7 0 ++ joining 1 5 0 ++ joining 1 7 0 ++
+    joining 2 5 0 ++ joining 2 7 0 ++ joining 2 8 0 ++ joining 2 9 0 ++ joining 2 10 0 ++ joining 2 11 0 ++
+    joining 3 5 0 ++ joining 3 7 0 ++ joining 3 8 0 ++ joining 3 9 0 ++ joining 3 10 0 ++ joining 3 11 0 ++
+    joining 4 9 0 ++ joining 4 11 0 ++ joining 5 9 0 ++ joining 5 11 0 ++
+    joining 6 0 0 ++ joining 6 1 0 ++ joining 6 2 0 ++ joining 6 3 0 ++ joining 6 9 0 ++ joining 6 11 0 ++
+    joining 7 0 0 ++ joining 7 1 0 ++ joining 7 2 0 ++ joining 7 3 0 ++ joining 7 9 0 ++ joining 7 11 0 ++
+    joining 8 1 0 ++ joining 8 3 0 ++ joining 9 1 0 ++ joining 9 3 0 ++
+    joining 10 1 0 ++ joining 10 3 0 ++ joining 10 4 0 ++ joining 10 5 0 ++ joining 10 6 0 ++ joining 10 7 0 ++
+    joining 11 1 0 ++ joining 11 3 0 ++ joining 11 4 0 ++ joining 11 5 0 ++ joining 11 6 0 ++ joining 11 7 0
+
+-- what is t0 is only k0 nothing, what is not is some k0 t0, and everything is only k0 t0
+abbrev to_t0 : List ℕ
+to_t0 =
+    0x01 ∷ 0x10 ∷ 0x00 ∷ 0x03 ∷ 0x00 ∷ 0x02 ∷ 0x08 ∷ 0x01 ∷ 0x03 ∷ 0x07 ∷ 0x01 ∷ 0x02 ∷ 0x20 ∷ 0x02 ∷ 0x04 ∷ 0x04 ∷ 0x02 ∷
+    0x20 ∷ 0x07 ∷ 0x05 ∷ 0x08 ∷ 0x01 ∷ 0x02 ∷ 0x20 ∷ 0x00 ∷ 0x09 ∷ []
+
+abbrev to_t0_file : List ℕ
+to_t0_file =
+    each_layer (named 0x01 ++ named 0x00 ++ named 0x00 ++ named 0x01 ++ named 0x00 ++ named 0x01) ++
+    joining 1 11 0 ++ joining 2 11 0 ++ joining 2 12 0 ++ joining 2 15 0 ++ joining 2 17 0 ++ joining 4 11 0 ++
+    joining 7 17 0 ++ joining 8 0 0 ++ joining 8 3 0 ++ joining 8 5 0 ++ joining 8 17 0 ++ joining 10 17 0 ++
+    joining 13 5 0 ++ joining 14 5 0 ++ joining 14 6 0 ++ joining 14 9 0 ++ joining 14 11 0 ++ joining 16 5 0
+
+-- k0 is within k1, k0 is within k1 reversed, and k1 is within k0
+abbrev alike : List ℕ
+alike = 0x10 ∷ 0x00 ∷ 0x10 ∷ 0x01 ∷ 0x11 ∷ 0x01 ∷ 0x21 ∷ 0x00 ∷ 0x01 ∷ 0x21 ∷ 0x00 ∷ 0x02 ∷ 0x21 ∷ 0x01 ∷ 0x00 ∷ []
+
+abbrev alike_file : List ℕ
+alike_file =
+    each_layer (named 0x00 ++ named 0x00) ++
+    joining 0 3 0 ++ joining 0 3 1 ++
+    joining 1 3 0 ++ joining 1 3 1 ++ joining 1 4 0 ++ joining 1 4 1 ++ joining 1 5 0 ++ joining 1 5 1 ++
+    joining 2 5 0 ++ joining 2 5 1 ++
+    joining 3 0 0 ++ joining 3 0 1 ++ joining 3 1 0 ++ joining 3 1 1 ++ joining 3 5 0 ++ joining 3 5 1 ++
+    joining 4 1 0 ++ joining 4 1 1 ++
+    joining 5 1 0 ++ joining 5 1 1 ++ joining 5 2 0 ++ joining 5 2 1 ++ joining 5 3 0 ++ joining 5 3 1
+
+abbrev pub layers_table : List InLayers
+layers_table =
+    individuals ++ (in_layers one_role one_role_file ∷ in_layers to_t0 to_t0_file ∷ in_layers alike alike_file ∷ [])
+
+-- a sheet, and how many bytes that file has
+pub record FileLength : Type 0 where
+  pub sheet : List ℕ
+  pub bytes : ℕ
+
+abbrev pub long : List ℕ → ℕ → FileLength
+long s n = record { sheet = s; bytes = n }
+
+abbrev pub measured : FileLength → FileLength
+measured r = long r.sheet (length (of_sheet view_file r.sheet))
+
+abbrev pub lengths : List FileLength
+lengths = long [] 9 ∷ long (0x03 ∷ 0x00 ∷ []) 36 ∷ long one_role 324 ∷ long s1 2448 ∷ long s6 25569 ∷ []
