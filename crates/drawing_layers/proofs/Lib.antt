@@ -1,0 +1,5 @@
+pub mod Listing
+pub mod RoleRecords
+pub mod Pieces
+pub mod Lengths
+pub mod PutInTurn
