@@ -28,7 +28,7 @@ chosen true x y p q f e = f refl
 chosen false x y p q f e = e
 
 module _ (v w : View) (a : Agree v w) where
-  plain_same : (k : ℕ) → is_plain v k ≡ is_plain w k
+  pub plain_same : (k : ℕ) → is_plain v k ≡ is_plain w k
   unfolding is_plain
   plain_same k = rw (← a.parts) (go (ltb k v.parts) refl)
     where

@@ -35,7 +35,7 @@ use Rattle.interpretation.proofs.Agreement.{says_same, leaves_same}
 -- ---- the parts that are names or fresh names, as a word
 
 module _ (v : View) (p : ℕ) (e : p ≡ of_kind v None) where
-  plain_is : (k : ℕ) → bit p k ≡ is_plain v k
+  pub plain_is : (k : ℕ) → bit p k ≡ is_plain v k
   unfolding is_plain is_of_lem
   plain_is k = ap (λ (x : ℕ). bit x k) e ∙ go (dec_lt k v.parts)
     where

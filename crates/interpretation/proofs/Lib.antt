@@ -11,3 +11,6 @@ pub mod Agreement
 pub mod Answers
 pub mod Demands
 pub mod OwnFiles
+pub mod DrawAnswers
+pub mod DrawDemands
+pub mod Worked

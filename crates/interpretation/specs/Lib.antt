@@ -1,10 +1,15 @@
 -- What must be believed:
---   Answers   what checking a drawn interpretation answers and leaves
---   Demanded  its refusals
+--   Answers     what checking a drawn interpretation answers and leaves
+--   Demanded    refusals of both calls, and what is drawn
+--   DrawnPlant  what drawing one answers and leaves
 -- What functions tell each other:
 --   PartTables  tables by part, an individual's successors
 --   Drawings    rows, labels, dominoes and pairs of a drawn interpretation
+-- What statements about these definitions use:
+--   Examples    the worked drawings of plants
 pub mod Answers
 pub mod Demanded
+pub mod DrawnPlant
 pub mod PartTables
 pub mod Drawings
+pub mod Examples

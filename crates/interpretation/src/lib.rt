@@ -1,9 +1,10 @@
-// An interpretation on file, held against a sheet: the first place where it breaks it, and its dominoes.
+// Interpretations on file: the check of one against a sheet, and the drawing of one that is a model of a sheet.
 #![tactic(auto)]
 
 ghost use Rattle.syntax.specs.Reading.{read_kb};
 ghost use Rattle.syntax.specs.Answers.{limit};
 ghost use Rattle.interpretation.specs.Answers.{ChecksPlant};
+ghost use Rattle.interpretation.specs.DrawnPlant.{DrawsPlant};
 
 pub mod dominoes;
 pub mod drawing;
@@ -13,7 +14,9 @@ pub mod tables;
 use crate::drawing::{Drawing, Finding};
 use crate::tables::parts_of;
 use domino::load_for;
+use domino_settling::judging::judge_set;
 use drawing_entries::{MOST_INDIVIDUALS, read_individuals};
+use drawing_layers::draw_set;
 use refusals::Refusal;
 
 impl Drawing<'_> {
@@ -53,4 +56,13 @@ pub fn check_plant(sheet: &[u8], file: &[u8], set: &mut [u64]) -> Result<Finding
         names: &names[..count],
     };
     Ok(drawing.check(set))
+}
+
+// Document 02's drawing of a plant: refuses, or writes a model of the sheet and answers how many bytes; the set is judged.
+pub fn draw_plant(sheet: &[u8], set: &mut [u64], out: &mut [u8]) -> Result<usize, Refusal>
+    ensures { DrawsPlant (read_kb limit sheet.now) set.old set.new out.old out.new result }
+{
+    let base = load_for(sheet, set.len())?;
+    judge_set(set, &base);
+    draw_set(base.size, parts_of(&base, None), set, out)
 }
