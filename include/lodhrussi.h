@@ -1,6 +1,7 @@
 /*
  * Lodhrussi: sheets of rules, and whether some finite plant of at least one item keeps them; drawn plants, and whether they keep
- * a sheet; sheets to and from OWL 2 functional-style syntax. For C99 and later, and for C++.
+ * a sheet; a plant drawn for a sheet, which keeps it; sheets to and from OWL 2 functional-style syntax. For C99 and later, and for
+ * C++.
  *
  * To link: `rt lib` in crates/capi writes crates/capi/out/libcapi.a (x86-64), then
  *
@@ -17,16 +18,16 @@
  *   place 0 too.
  *   The other numbers (*traits, *size, *verdict, ..) are written when done and only then; *condition only when struck, *first only
  *   when an item or a pair breaks a rule, *second only when a pair does.
- *   A refusal writes nothing to a list, a set or an output.
+ *   A refusal writes nothing to a list, a set or an output; but 21, 26 and 27 of draw plant leave the set as judging does.
  *
  * Order of refusals. A sheet is read record by record and the first fault is reported; inside a record 3, 1, 2, 4, then for each
- * reference in turn 5, then 6, 16 or 17, then 7, and last 8; after the last record 9. Then come 10 to 12 and 20 to 25, for the
+ * reference in turn 5, then 6, 16 or 17, then 7, and last 8; after the last record 9. Then come 10 to 12 and 20 to 27, for the
  * calls that name them, in the order named there.
  *
  * Sets. Pairing number A * 2^(2L+c) + R * 2^c + B has left mark set A, link set R and right mark set B. A set of pairings is a list
  * of 64-bit words; pairing n is bit n mod 64 of word n / 64. Words needed: 2^(2c+2L) / 64, but at least 1: 1 for c + L up to 3,
- * 4,096 for 9, 262,144 for 12. With fewer than 64 pairings the spare bits of word 0 are cleared by open, settle, judge and check
- * plant, and are ignored and kept by strike. Words beyond those needed are never touched.
+ * 4,096 for 9, 262,144 for 12. With fewer than 64 pairings the spare bits of word 0 are cleared by open, settle, judge, check plant
+ * and draw plant, and are ignored and kept by strike. Words beyond those needed are never touched.
  *
  * Pointers. None may be null, also where a length is 0; each must be aligned for its type and point to as many bytes or words as
  * the length beside it says, or to one number. All of it holds a value before the call, also where the call only writes. What is
@@ -50,28 +51,30 @@ enum lodhrussi_refusal {
     LODHRUSSI_DONE = 0,
     LODHRUSSI_UNKNOWN_KIND = 1,
     LODHRUSSI_BODY_CUT_OFF = 2,
-    LODHRUSSI_TOO_MANY_RECORDS = 3,  /* a 256th record begins */
-    LODHRUSSI_NUMBER_TOO_LARGE = 4,  /* of a trait or link: traits go up to 11, links up to 3 */
-    LODHRUSSI_NOT_EARLIER = 5,       /* a reference that names no earlier record */
-    LODHRUSSI_LINK_FOR_CLASS = 6,    /* a link where a class is wanted */
-    LODHRUSSI_NAMED_AGAIN = 7,       /* already named once and not allowed again */
-    LODHRUSSI_LINK_ON_EMPTY = 8,     /* the link of a some or only, or the first of a link rule, holds on the empty set of links */
-    LODHRUSSI_TOO_MANY_MARKS = 9,    /* c + L above 12 */
-    LODHRUSSI_SET_TOO_SHORT = 10,    /* fewer words than lodhrussi_words_needed */
-    LODHRUSSI_NO_SUCH_PAIRING = 11,  /* number not below 2^(2c+2L) */
-    LODHRUSSI_LIST_TOO_SHORT = 12,   /* fewer than 3c bytes */
-    LODHRUSSI_SLOT_TOO_LONG = 14,    /* the queue program's; no call returns it */
-    LODHRUSSI_QUEUE_BROKEN = 15,     /* the queue program's; no call returns it */
-    LODHRUSSI_CLASS_FOR_LINK = 16,   /* a class where a link is wanted */
-    LODHRUSSI_RULE_NAMED = 17,       /* rules are never named */
-    LODHRUSSI_UNKNOWN_WORD = 18,     /* a word of a text that is not known */
-    LODHRUSSI_CANNOT_STAND = 19,     /* a known word or parenthesis that cannot stand there, or a text that ends inside a form */
-    LODHRUSSI_COMPOSED_LINK = 20,    /* a rule with a link that has not, and, or; or a link rule */
-    LODHRUSSI_OUTPUT_TOO_SHORT = 21, /* fewer bytes than are to be written */
-    LODHRUSSI_PLANT_BROKEN = 22,     /* a plant's record of unknown kind, or cut off */
-    LODHRUSSI_TOO_MANY_ITEMS = 23,   /* a plant's 1,025th item */
-    LODHRUSSI_NOT_THERE = 24,        /* a plant's bit that is no trait or fresh mark, or an item or link that does not exist */
-    LODHRUSSI_NO_ITEMS = 25          /* a plant without items */
+    LODHRUSSI_TOO_MANY_RECORDS = 3,   /* a 256th record begins */
+    LODHRUSSI_NUMBER_TOO_LARGE = 4,   /* of a trait or link: traits go up to 11, links up to 3 */
+    LODHRUSSI_NOT_EARLIER = 5,        /* a reference that names no earlier record */
+    LODHRUSSI_LINK_FOR_CLASS = 6,     /* a link where a class is wanted */
+    LODHRUSSI_NAMED_AGAIN = 7,        /* already named once and not allowed again */
+    LODHRUSSI_LINK_ON_EMPTY = 8,      /* the link of a some or only, or the first of a link rule, holds on the empty set of links */
+    LODHRUSSI_TOO_MANY_MARKS = 9,     /* c + L above 12 */
+    LODHRUSSI_SET_TOO_SHORT = 10,     /* fewer words than lodhrussi_words_needed */
+    LODHRUSSI_NO_SUCH_PAIRING = 11,   /* number not below 2^(2c+2L) */
+    LODHRUSSI_LIST_TOO_SHORT = 12,    /* fewer than 3c bytes */
+    LODHRUSSI_SLOT_TOO_LONG = 14,     /* the queue program's; no call returns it */
+    LODHRUSSI_QUEUE_BROKEN = 15,      /* the queue program's; no call returns it */
+    LODHRUSSI_CLASS_FOR_LINK = 16,    /* a class where a link is wanted */
+    LODHRUSSI_RULE_NAMED = 17,        /* rules are never named */
+    LODHRUSSI_UNKNOWN_WORD = 18,      /* a word of a text that is not known */
+    LODHRUSSI_CANNOT_STAND = 19,      /* a known word or parenthesis that cannot stand there, or a text that ends inside a form */
+    LODHRUSSI_COMPOSED_LINK = 20,     /* a rule with a link that has not, and, or; or a link rule */
+    LODHRUSSI_OUTPUT_TOO_SHORT = 21,  /* fewer bytes than are to be written */
+    LODHRUSSI_PLANT_BROKEN = 22,      /* a plant's record of unknown kind, or cut off */
+    LODHRUSSI_TOO_MANY_ITEMS = 23,    /* a plant's 1,025th item */
+    LODHRUSSI_NOT_THERE = 24,         /* a plant's bit that is no trait or fresh mark, or an item or link that does not exist */
+    LODHRUSSI_NO_ITEMS = 25,          /* a plant without items */
+    LODHRUSSI_NO_SURVIVORS = 26,      /* a sheet that cannot be met, and so has no plant to draw */
+    LODHRUSSI_TOO_MANY_SURVIVORS = 27 /* more than 341 survivors, which make more items than a plant may have */
 };
 
 /* What a strike finds. */
@@ -162,6 +165,10 @@ static inline const char *lodhrussi_refusal_sentence(uint64_t refusal)
                "known link.";
     case LODHRUSSI_NO_ITEMS:
         return "The plant has no items.";
+    case LODHRUSSI_NO_SURVIVORS:
+        return "The sheet cannot be met: it has no survivors.";
+    case LODHRUSSI_TOO_MANY_SURVIVORS:
+        return "The sheet has too many survivors: a plant is drawn of at most 341.";
     default:
         return "No call refuses with this number.";
     }
@@ -271,6 +278,22 @@ uint64_t lodhrussi_judge(const uint8_t *sheet, size_t n, uint64_t *set, size_t w
  */
 uint64_t lodhrussi_check_plant(const uint8_t *sheet, size_t n, const uint8_t *plant, size_t m, uint64_t *set, size_t words,
                                uint64_t *place, uint64_t *breach, uint64_t *first, uint64_t *second);
+
+/*
+ * Draw plant. Judges, and writes a plant that keeps the sheet into the output of len bytes, in the records of check plant, and
+ * answers its length. Of m survivors, in rising order of their numbers, it has 3m items in three layers: item g * m + i, where g is
+ * 0, 1 or 2, has the traits and fresh marks of the right mark set of survivor i. If that is the left mark set of survivor j, there
+ * are connections between this item and item ((g + 1) mod 3) * m + j: forth for each link that j has in its link set, and back for
+ * each link that it has there reversed. All items come first, then the connections, by the item that they go from, then the one
+ * that they go to, then their link, each once. Bytes past those written are kept. Check plant finds that the plant holds, and
+ * writes exactly the survivors.
+ * The set ends as judging leaves it, on 26, 27 and 21 too; m is then the number of ones in the words needed. A plant takes at most
+ * 9m + 36Lm^2 bytes, which with 341 survivors and 4 links are 16,747,533; most take far fewer, but megabytes are possible.
+ * Refuses: as judge does; then 26 if there are no survivors; 27 if there are more than 341; then 21.
+ * Takes at most about 80 KB of stack, whatever the sheet, and runs on a stack of 256 KB.
+ */
+uint64_t lodhrussi_draw_plant(const uint8_t *sheet, size_t n, uint64_t *set, size_t words, uint8_t *out, size_t len,
+                              uint64_t *place, uint64_t *written);
 
 /*
  * Import. Writes the sheet of a text of n bytes into the output of len bytes and answers its length, 765 at most. The text is OWL 2

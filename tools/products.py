@@ -198,7 +198,7 @@ def main():
     bad += found
     called = set(re.findall(r" U (\S+)", run("nm", "-u", library)))
     bad += [f"called outside the library: {name}" for name in sorted(called - OUTSIDE)]
-    if not sources or "lodhrussi_judge" not in functions or len(functions["lodhrussi_judge"]) < 100:
+    if not sources or "lodhrussi_judge" not in functions or sum(map(len, functions.values())) < 1000:
         bad.append("there is nothing to look at")
     if bad:
         raise SystemExit("\n".join(["products: found", *bad]))

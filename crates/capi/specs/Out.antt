@@ -1,6 +1,6 @@
 -- What the exported functions return and write, by what the call says: the refusal's number (0 for none), its place, then the
 -- values; a refusal has no values.
-use Rattle.std.specs.Prelude.{ℕ, ◌+◌, List, [], ◌∷◌, get_or}
+use Rattle.std.specs.Prelude.{ℕ, ◌+◌, List, [], ◌∷◌, length, get_or}
 use Rattle.syntax.specs.Reading.{read_kb}
 use Rattle.syntax.specs.Answers.{limit, read_says, SumKept, list_says, list_leaves}
 use Rattle.output.specs.Output.{output_says, output_leaves}
@@ -8,6 +8,7 @@ use Rattle.owl_import.specs.Import.{imported}
 use Rattle.owl_export.specs.Export.{exported}
 use Rattle.domino.specs.Answers.{open_says, open_leaves, strike_says, strike_leaves, settle_says, settle_leaves, judge_says, judge_leaves}
 use Rattle.interpretation.specs.Answers.{check_says, check_leaves}
+use Rattle.interpretation.specs.DrawnPlant.{draw_output}
 
 -- the result: the refusal's number, 0 for done
 abbrev pub result_out : List ℕ → ℕ
@@ -81,3 +82,10 @@ export_said sheet out = output_says (exported sheet) out
 
 abbrev pub export_left : List ℕ → List ℕ → List ℕ
 export_left sheet out = output_leaves (exported sheet) out
+
+-- what drawing says, and leaves of the bytes; it leaves of the words what judge does
+abbrev pub draw_said : List ℕ → List ℕ → List ℕ → List ℕ
+draw_said sheet words out = output_says (draw_output (read_kb limit sheet) (length words)) out
+
+abbrev pub draw_left : List ℕ → List ℕ → List ℕ → List ℕ
+draw_left sheet words out = output_leaves (draw_output (read_kb limit sheet) (length words)) out

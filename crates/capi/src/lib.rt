@@ -1,6 +1,6 @@
 // The functions for C and Rust: numbers and slices only, each a thin call. Each answers the refusal's number, 0 for done; a
 // refusal writes its place, a call that is done its values. Place, words and values are parameters of each call, and open, settle,
-// judge, check, import and export are written out, since the C header fixes every name and parameter.
+// judge, check, draw, import and export are written out, since the C header fixes every name and parameter.
 #![tactic(auto)]
 
 ghost use Rattle.std.specs.Prelude.{◌≡◌, get_or};
@@ -10,7 +10,7 @@ ghost use Rattle.drawings.specs.Checking.{breach_numbers};
 ghost use Rattle.interpretation.specs.Answers.{finding_is};
 ghost use Rattle.capi.specs.Out.{result_out, place_out, value_out};
 ghost use Rattle.capi.specs.Out.{read_said, SumOut, list_said, list_left, open_said, open_left, strike_said, strike_left, settle_said, settle_left, judge_said, judge_left};
-ghost use Rattle.capi.specs.Out.{check_said, check_left, import_said, import_left, export_said, export_left};
+ghost use Rattle.capi.specs.Out.{check_said, check_left, draw_said, draw_left, import_said, import_left, export_said, export_left};
 
 use domino::Verdict;
 use interpretation::drawing::Finding;
@@ -225,6 +225,30 @@ pub extern "C" fn lodhrussi_check_plant(
         Err(refusal) => refuse(refusal, place),
         Ok(found) => {
             put_finding(found, breach, first, second);
+            0
+        }
+    }
+}
+
+// Draw a plant: its records into the output; how many bytes. The words are left as judge leaves them.
+#[unsafe(no_mangle)]
+pub extern "C" fn lodhrussi_draw_plant(
+    sheet: &[u8],
+    set: &mut [u64],
+    out: &mut [u8],
+    place: &mut u64,
+    written: &mut u64,
+) -> u64
+    ensures value { result ≡ result_out (draw_said sheet.now set.old out.old) }
+    ensures place_after { place.new ≡ place_out (draw_said sheet.now set.old out.old) place.old }
+    ensures written_after { written.new ≡ value_out 0 (draw_said sheet.now set.old out.old) written.old }
+    ensures set_after { set.new ≡ judge_left sheet.now set.old }
+    ensures out_after { out.new ≡ draw_left sheet.now set.old out.old }
+{
+    match interpretation::draw_plant(sheet, set, out) {
+        Err(refusal) => refuse(refusal, place),
+        Ok(n) => {
+            *written = n as u64;
             0
         }
     }

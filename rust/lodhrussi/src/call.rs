@@ -22,11 +22,13 @@ pub enum Call {
     Export,
     /// [`check_plant`](crate::check_plant)
     CheckPlant,
+    /// [`draw_plant`](crate::draw_plant) and [`drawn_plant`](crate::drawn_plant)
+    DrawPlant,
 }
 
 impl Call {
     /// All of them, in the documents' order.
-    pub const ALL: [Call; 9] = [
+    pub const ALL: [Call; 10] = [
         Call::Read,
         Call::ListMarks,
         Call::Open,
@@ -36,6 +38,7 @@ impl Call {
         Call::Import,
         Call::Export,
         Call::CheckPlant,
+        Call::DrawPlant,
     ];
 }
 
@@ -51,6 +54,7 @@ impl fmt::Display for Call {
             Call::Import => "import",
             Call::Export => "export",
             Call::CheckPlant => "check plant",
+            Call::DrawPlant => "draw plant",
         })
     }
 }

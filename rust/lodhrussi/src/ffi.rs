@@ -95,4 +95,15 @@ extern "C" {
         first: *mut u64,
         second: *mut u64,
     ) -> u64;
+
+    pub fn lodhrussi_draw_plant(
+        sheet: *const u8,
+        n: usize,
+        set: *mut u64,
+        words: usize,
+        out: *mut u8,
+        len: usize,
+        place: *mut u64,
+        written: *mut u64,
+    ) -> u64;
 }

@@ -1,7 +1,7 @@
 //! Reads, flattens and judges knowledge bases of the description logic ALCIb
-//! with role inclusions, checks finite interpretations against them, and takes
-//! them from and to OWL 2 functional-style syntax, by calls into the static
-//! library `capi`.
+//! with role inclusions, checks finite interpretations against them and draws finite
+//! models of them, and takes them from and to OWL 2 functional-style syntax, by calls
+//! into the static library `capi`.
 //!
 //! The bytes of a knowledge base are called a sheet: records of concepts, roles,
 //! axioms and role inclusions, each record naming earlier ones. Those of a finite
@@ -41,12 +41,16 @@
 //! let plant = [0x40, 1, 0, 0x41, 0, 0, 0, 0, 0];
 //! let found = lodhrussi::check_plant(&sheet, &plant, &mut set)?;
 //! assert_eq!(found, lodhrussi::PlantCheck::Holds);
+//!
+//! let plant = lodhrussi::drawn_plant(&sheet, &mut set)?;
+//! assert_eq!(plant.len(), 2_448);
 //! # Ok::<(), lodhrussi::Refusal>(())
 //! ```
 
 mod call;
 mod condition;
 mod dominoes;
+mod drawing;
 mod ffi;
 mod owl;
 mod plants;
@@ -60,6 +64,7 @@ mod tests;
 pub use call::Call;
 pub use condition::Condition;
 pub use dominoes::{judge, open, settle, strike, words_needed, Judgement, Strike, Verdict};
+pub use drawing::{draw_plant, drawn_plant};
 pub use owl::{export, exported, import, imported};
 pub use plants::{check_plant, PlantCheck};
 pub use refusal::Refusal;

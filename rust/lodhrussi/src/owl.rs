@@ -133,6 +133,6 @@ pub fn exported(sheet: &[u8]) -> Result<String, Refusal> {
 }
 
 /// A length within an output.
-fn within(written: u64) -> usize {
+pub(crate) fn within(written: u64) -> usize {
     usize::try_from(written).expect("the library writes within the output")
 }

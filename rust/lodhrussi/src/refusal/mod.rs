@@ -30,7 +30,8 @@ pub struct Refusal {
     /// 12 for a list that is too short, 18 and 19 for a fault of a text, 3 also
     /// for its 256th record, 20 for an axiom or a role inclusion that has no
     /// text, 21 for an output that is too short, 22 to 24 for a fault of a plant's
-    /// record, 25 for a plant without items. No call answers 13, which is
+    /// record, 25 for a plant without items, 26 for an empty canonical domino set,
+    /// 27 for one with too many members to draw. No call answers 13, which is
     /// withdrawn, nor 14 and 15, which are the queue program's.
     pub number: u64,
     /// For 5, 6, 7, 16 and 17 the byte of the faulty reference, for 1 to 4, 8
@@ -55,11 +56,11 @@ impl Refusal {
     /// The sentence, then a second one with what the refused sheet shows: the
     /// byte at the place, the record and the reference that it belongs to, what
     /// was found there and what was wanted; or what a set, a list or an output
-    /// needs, or what an item and a connection of a plant may have. For
-    /// [`Call::Import`] what is refused is a text, which shows line, column and
-    /// word; for [`Call::CheckPlant`] it is the sheet all the same, and 22, 23 and 25
-    /// have the sentence alone. The sentence alone also for another sheet or text,
-    /// whose first fault is not this one.
+    /// needs, what an item and a connection of a plant may have, or how many
+    /// survivors there are. For [`Call::Import`] what is refused is a text, which
+    /// shows line, column and word; for [`Call::CheckPlant`] it is the sheet all the
+    /// same, and 22, 23 and 25 have the sentence alone, as 26 has. The sentence alone
+    /// also for another sheet or text, whose first fault is not this one.
     ///
     /// ```
     /// let sheet = [0x10, 0, 7, 0, 0];

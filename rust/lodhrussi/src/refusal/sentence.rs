@@ -99,10 +99,10 @@ fn of_plant(number: u64) -> Option<(Subject, &'static str)> {
 
 /// What a call alone says of a sheet.
 fn own(call: Call, number: u64) -> Option<(Subject, &'static str)> {
-    use Call::{Export, Judge, ListMarks, Open, Settle, Strike};
-    use Subject::{Axiom, DominoNumber, List};
+    use Call::{DrawPlant, Export, Judge, ListMarks, Open, Settle, Strike};
+    use Subject::{Axiom, DominoNumber, List, Sheet};
     Some(match (call, number) {
-        (Open | Strike | Settle | Judge, 10) => SET_TOO_SHORT,
+        (Open | Strike | Settle | Judge | DrawPlant, 10) => SET_TOO_SHORT,
         (Strike, 11) => (
             DominoNumber,
             "is too large: the sheet has no pairing of that number",
@@ -115,7 +115,12 @@ fn own(call: Call, number: u64) -> Option<(Subject, &'static str)> {
             Axiom,
             "is a link rule or has a link with not, and, or; the OWL text of a sheet has neither",
         ),
-        (Export, 21) => OUTPUT_TOO_SHORT,
+        (Export | DrawPlant, 21) => OUTPUT_TOO_SHORT,
+        (DrawPlant, 26) => (Sheet, "cannot be met: it has no survivors"),
+        (DrawPlant, 27) => (
+            Sheet,
+            "has too many survivors: a plant is drawn of at most 341",
+        ),
         _ => return None,
     })
 }

@@ -3,8 +3,11 @@
 use super::sentence::{said, Subject};
 use super::Refusal;
 use crate::records::{records, Field, Record, Reference, Sort, KIND_BYTES};
-use crate::{words_needed, Counts};
+use crate::{words_needed, Call, Counts};
 use std::collections::BTreeSet;
+
+/// The most survivors of which a plant is drawn.
+const MOST_SURVIVORS: u64 = 341;
 
 /// A sentence with what the sheet shows; none if it is not the one refused.
 pub(super) fn shown(refusal: &Refusal, sheet: &[u8]) -> Option<String> {
@@ -25,11 +28,8 @@ pub(super) fn shown(refusal: &Refusal, sheet: &[u8]) -> Option<String> {
             Some(needed(counts, &format!("the list takes {bytes}")))
         }
         (Subject::Plant, Ok(counts)) if number == 24 => of_plant(sheet, counts),
-        (Subject::Output, Ok(_)) => {
-            let text = crate::exported(sheet).ok()?;
-            let bytes = count(text.len() as u64, "byte");
-            Some(format!("The sheet's text takes {bytes}."))
-        }
+        (Subject::Output, Ok(counts)) => of_output(refusal.call, sheet, counts),
+        (Subject::Sheet, Ok(counts)) if number == 27 => of_survivors(sheet, counts),
         (Subject::Axiom, Ok(_)) => of_axiom(sheet, place),
         (_, Err(fault)) if (fault.number, fault.place) == (number, place) => {
             let place = usize::try_from(place).ok()?;
@@ -65,6 +65,28 @@ fn of_plant(sheet: &[u8], counts: Counts) -> Option<String> {
     let links = numbered("link", &(0..counts.links).collect::<Vec<_>>());
     let may_have = format!("an item may have {bits}, and a connection {links}");
     Some(needed(counts, &may_have))
+}
+
+/// What the output of a call takes.
+fn of_output(call: Call, sheet: &[u8], counts: Counts) -> Option<String> {
+    let (what, length) = match call {
+        Call::DrawPlant => {
+            let mut set = vec![0; words_needed(counts)];
+            let plant = crate::drawn_plant(sheet, &mut set).ok()?;
+            ("plant", plant.len())
+        }
+        _ => ("text", crate::exported(sheet).ok()?.len()),
+    };
+    let bytes = count(length as u64, "byte");
+    Some(format!("The sheet's {what} takes {bytes}."))
+}
+
+/// How many survivors there are, if they are too many to draw.
+fn of_survivors(sheet: &[u8], counts: Counts) -> Option<String> {
+    let mut set = vec![0; words_needed(counts)];
+    let survivors = crate::judge(sheet, &mut set).ok()?.survivors;
+    let too_many = survivors > MOST_SURVIVORS;
+    too_many.then(|| format!("It has {}.", count(survivors, "survivor")))
 }
 
 /// Things by their numbers.

@@ -1,6 +1,7 @@
 //! The exact sentences.
 
 use super::*;
+use comparison::drawn::worked::{M341, M342};
 
 fn hex(text: &str) -> Vec<u8> {
     let bytes = text.split_whitespace();
@@ -74,6 +75,17 @@ const OF_PLANT: [(u64, &str); 5] = [
     (25, "The plant has no items."),
 ];
 
+/// What the drawing of a plant has beyond those.
+const OF_DRAWING: [(u64, &str); 4] = [
+    (10, SET_TOO_SHORT),
+    (26, "The sheet cannot be met: it has no survivors."),
+    (
+        27,
+        "The sheet has too many survivors: a plant is drawn of at most 341.",
+    ),
+    (21, OUTPUT_TOO_SHORT),
+];
+
 /// What the call of a text has.
 const OF_TEXT: [(u64, &str); 4] = [
     (
@@ -93,7 +105,7 @@ const NO_TEXT: &str =
      neither.";
 
 /// What a call of a sheet has beyond those.
-const OWN: [(Call, &[(u64, &str)]); 8] = [
+const OWN: [(Call, &[(u64, &str)]); 9] = [
     (Call::Read, &[]),
     (Call::ListMarks, &[(12, LIST_TOO_SHORT)]),
     (Call::Open, &[(10, SET_TOO_SHORT)]),
@@ -102,6 +114,7 @@ const OWN: [(Call, &[(u64, &str)]); 8] = [
     (Call::Judge, &[(10, SET_TOO_SHORT)]),
     (Call::Export, &[(20, NO_TEXT), (21, OUTPUT_TOO_SHORT)]),
     (Call::CheckPlant, &OF_PLANT),
+    (Call::DrawPlant, &OF_DRAWING),
 ];
 
 /// Asserts the sentence of each number of a call.
@@ -363,6 +376,7 @@ fn what_a_set_or_a_list_needs() {
         crate::strike(&sheet, &mut [], 0).map(drop),
         crate::judge(&sheet, &mut []).map(drop),
         crate::check_plant(&sheet, &[], &mut []).map(drop),
+        crate::draw_plant(&sheet, &mut [], &mut []).map(drop),
     ];
     for refusal in refusals {
         assert_shown(refusal.unwrap_err(), &sheet, words);
@@ -503,4 +517,27 @@ fn what_an_output_needs() {
     let sheet = hex(S1);
     let refusal = crate::export(&sheet, &mut [0; 51]).unwrap_err();
     assert_shown(refusal, &sheet, "The sheet's text takes 52 bytes.");
+    let refusal = crate::draw_plant(&sheet, &mut [0], &mut [0; 2_447]).unwrap_err();
+    assert_shown(refusal, &sheet, "The sheet's plant takes 2448 bytes.");
+    // of other sheets, without survivors or with too many
+    for other in ["01 02 20 00 01", "03 04"].map(hex) {
+        assert_eq!(refusal.explain(&other), refusal.to_string());
+    }
+}
+
+#[test]
+fn what_a_sheet_shows_of_its_survivors() {
+    let five_names = hex("03 04");
+    let refusal = crate::draw_plant(&five_names, &mut [0; 16], &mut []).unwrap_err();
+    assert_eq!((refusal.number, refusal.place), (27, 0));
+    assert_shown(refusal, &five_names, "It has 1024 survivors.");
+    assert_shown(refusal, &hex(M342), "It has 342 survivors.");
+    // all is nothing
+    let unmet = hex("01 02 20 00 01");
+    for other in [&hex(S1), &hex(M341), &unmet] {
+        assert_eq!(refusal.explain(other), refusal.to_string());
+    }
+    let refusal = crate::draw_plant(&unmet, &mut [0], &mut []).unwrap_err();
+    assert_eq!((refusal.number, refusal.place), (26, 0));
+    assert_eq!(refusal.explain(&unmet), refusal.to_string());
 }

@@ -30,6 +30,8 @@ LODHRUSSI_PLANT_BROKEN 22
 LODHRUSSI_TOO_MANY_ITEMS 23
 LODHRUSSI_NOT_THERE 24
 LODHRUSSI_NO_ITEMS 25
+LODHRUSSI_NO_SURVIVORS 26
+LODHRUSSI_TOO_MANY_SURVIVORS 27
 LODHRUSSI_ABSENT 0
 LODHRUSSI_STRUCK 1
 LODHRUSSI_KEPT 2
@@ -72,6 +74,7 @@ fn sentence(number: u64, place: u64) -> String {
         18 | 19 => Call::Import,
         20 | 21 => Call::Export,
         22..=25 => Call::CheckPlant,
+        26 | 27 => Call::DrawPlant,
         _ => return NO_CALLS.into(),
     };
     of_call(call, number, place)

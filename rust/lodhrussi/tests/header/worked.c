@@ -158,6 +158,58 @@ static void plants(void)
     check(s1, sizeof s1, joined, 0, 5);
 }
 
+/* The refusal and place of a drawing and the length written; the output up to its last bytes that are 9, and their number; the
+   first and the last word of the set, whose words are 7 before. */
+static void draw(const uint8_t *sheet, size_t n, size_t words, size_t len)
+{
+    uint64_t numbers[3] = {9, 9, 9}, set[17];
+    uint8_t out[91];
+    int end = sizeof out;
+    for (int i = 0; i < 17; i++)
+        set[i] = 7;
+    memset(out, 9, sizeof out);
+    numbers[0] = lodhrussi_draw_plant(sheet, n, set, words, out, len, &numbers[1], &numbers[2]);
+    line("draw", numbers, 3);
+    while (end > 0 && out[end - 1] == 9)
+        end--;
+    for (int i = 0; i < end; i++)
+        printf("%02X ", out[i]);
+    printf("kept %d\n%" PRIX64 " %" PRIX64 "\n", (int)sizeof out - end, set[0], set[16]);
+}
+
+/* The length of the plant that is drawn, what the check of it finds, and the sets that the two leave. */
+static void draw_and_check(const uint8_t *sheet, size_t n)
+{
+    static uint8_t plant[25569];
+    uint64_t out[4] = {9, 9, 9, 9}, survivors[5] = {9, 9, 9, 9, 9}, drawn[5] = {9, 9, 9, 9, 9}, length = 9;
+    lodhrussi_draw_plant(sheet, n, survivors, 5, plant, sizeof plant, &out[0], &length);
+    lodhrussi_check_plant(sheet, n, plant, (size_t)length, drawn, 5, &out[0], &out[1], &out[2], &out[3]);
+    printf("%" PRIu64, length);
+    line(" checked", out, 4);
+    for (int i = 0; i < 5; i++)
+        printf("%" PRIX64 " %" PRIX64 "%c", survivors[i], drawn[i], i + 1 < 5 ? ' ' : '\n');
+}
+
+/* A plant with and one without connections, in enough room, in just enough and in too little; each other refusal. */
+static void drawings(void)
+{
+    static const uint8_t s6[] = {0x03, 0x00, 0x10, 0x00, 0x04, 0x00, 0x07, 0x01, 0x02, 0x20, 0x00, 0x03};
+    static const uint8_t both_ways[] = {0x10, 0x00, 0x11, 0x00, 0x21, 0x01, 0x00};
+    static const uint8_t cannot[] = {0x01, 0x02, 0x20, 0x00, 0x01};
+    static const uint8_t five_traits[] = {0x03, 0x04};
+
+    draw(s1, 0, 17, 91);
+    draw(both_ways, sizeof both_ways, 1, 91);
+    draw(both_ways, sizeof both_ways, 1, 90);
+    draw(both_ways, sizeof both_ways, 1, 89);
+    draw(cannot, sizeof cannot, 1, 0);
+    draw(five_traits, sizeof five_traits, 16, 0);
+    draw(s1, 7, 17, 91);
+    draw(s1, sizeof s1, 0, 91);
+    draw_and_check(s1, sizeof s1);
+    draw_and_check(s6, sizeof s6);
+}
+
 int main(void)
 {
     static const uint8_t not_earlier[] = {0x04, 0x00};
@@ -206,5 +258,6 @@ int main(void)
     texts();
     link_rules();
     plants();
+    drawings();
     return 0;
 }
