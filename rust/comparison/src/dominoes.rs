@@ -167,10 +167,7 @@ impl Tally {
         match reference::read(sheet) {
             Ok(counts) => {
                 self.count_accepted(sheet, counts);
-                let shape = Shape {
-                    parts: counts.marks() as usize,
-                    roles: counts.links as usize,
-                };
+                let shape = counts.shape();
                 self.compare_short(engine, sheet, shape.words(), random);
                 if shape.words() <= LONGEST {
                     self.compare_sound(engine, sheet, shape, random);

@@ -5,7 +5,6 @@ use crate::copies;
 use crate::inclusions;
 use crate::made_up::{Sheet, MAX_RECORDS};
 use crate::random::Random;
-use reference::domino::Shape;
 use reference::{Counts, Judgement};
 
 /// A sheet whose parts and roles come to exactly `size`, which is not 0.
@@ -36,10 +35,7 @@ pub fn unmet_sheet(size: usize, random: &mut Random) -> Vec<u8> {
 
 fn judged(sheet: &[u8]) -> Judgement {
     let counts = reference::read(sheet).expect("a sheet without faults");
-    let shape = Shape {
-        parts: counts.marks() as usize,
-        roles: counts.links as usize,
-    };
+    let shape = counts.shape();
     let mut set = vec![0; shape.words()];
     reference::judge(sheet, &mut set).expect("a set long enough")
 }

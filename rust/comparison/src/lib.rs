@@ -6,6 +6,7 @@ pub mod copies;
 pub mod counting;
 pub mod damage;
 pub mod dominoes;
+pub mod drawn;
 pub mod few_axioms;
 pub mod inclusions;
 pub mod made_up;
@@ -29,7 +30,7 @@ mod lent;
 use reference::{Counts, Judgement, PlantCheck, Refusal, Strike};
 
 /// One more than the largest number of a refusal.
-pub const REFUSALS: usize = 26;
+pub const REFUSALS: usize = 28;
 
 /// The calls about a sheet alone, with the refusals of the reference.
 #[allow(clippy::missing_errors_doc)]
@@ -65,6 +66,12 @@ pub trait Checking {
         plant: &[u8],
         set: &mut [u64],
     ) -> Result<PlantCheck, Refusal>;
+}
+
+/// The call that draws a plant of a sheet, with the refusals of the reference.
+#[allow(clippy::missing_errors_doc)]
+pub trait Planting {
+    fn draw_plant(&self, sheet: &[u8], set: &mut [u64], out: &mut [u8]) -> Result<usize, Refusal>;
 }
 
 /// The reference itself.
@@ -116,5 +123,11 @@ impl Checking for Reference {
         set: &mut [u64],
     ) -> Result<PlantCheck, Refusal> {
         reference::check_plant(sheet, plant, set)
+    }
+}
+
+impl Planting for Reference {
+    fn draw_plant(&self, sheet: &[u8], set: &mut [u64], out: &mut [u8]) -> Result<usize, Refusal> {
+        reference::draw_plant(sheet, set, out)
     }
 }

@@ -76,6 +76,13 @@ impl Shape {
             right: number % self.labels(),
         }
     }
+
+    /// The dominoes in the set in `words`, in rising order of their numbers.
+    pub fn members(self, words: &[u64]) -> impl Iterator<Item = Domino> + '_ {
+        (0..self.dominoes())
+            .filter(move |&number| has(words, number))
+            .map(move |number| self.domino(number))
+    }
 }
 
 /// Whether the set in `words` has the domino of that number.

@@ -59,4 +59,7 @@ pub(crate) enum Fault {
     /// an individual or a role that there is not.
     NotInPlant = 24,
     NoIndividuals = 25,
+    /// A sheet that cannot be met is to be drawn.
+    NoSurvivors = 26,
+    TooManySurvivors = 27,
 }

@@ -106,6 +106,13 @@ impl FlatKb {
             roles: self.roles,
         }
     }
+
+    /// Whether the part of that number is a name or a fresh name, which is what a
+    /// plant's individuals are drawn with.
+    #[must_use]
+    pub fn is_drawn(&self, part: usize) -> bool {
+        matches!(self.parts.get(part), Some(Part::Name | Part::Fresh(_)))
+    }
 }
 
 /// Reads and flattens a sheet.

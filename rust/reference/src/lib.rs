@@ -7,8 +7,9 @@
 //! base. Neither allocates. [`open`], [`strike`], [`settle`] and [`judge`] go
 //! through all dominoes, with the definitions applied as they stand. [`queue`]
 //! judges the sheets of a queue (document 02, N1). [`owl`] has the text of a
-//! sheet (N7). [`check_plant`] holds a plant on file against a sheet (N10), and
-//! [`interpretation`] has what a plant is a model of, by the axioms as written.
+//! sheet (N7). [`check_plant`] holds a plant on file against a sheet (N10),
+//! [`draw_plant`] draws one of what judging leaves (N11), and [`interpretation`]
+//! has what a plant is a model of, by the axioms as written.
 //!
 //! One claim has one part (document 02, N4); in [`apart`] each occurrence of a
 //! restriction has its own.
@@ -24,6 +25,7 @@ pub mod apart;
 pub mod domino;
 pub mod flat;
 pub mod interpretation;
+pub mod output;
 pub mod owl;
 pub mod plant;
 pub mod queue;
@@ -35,8 +37,9 @@ mod tests;
 pub use calls::{judge, open, settle, strike, Judgement, Strike, Verdict};
 pub use conditions::Conditions;
 pub use fault::Refusal;
-pub use plant::{check_plant, PlantCheck};
+pub use plant::{check_plant, draw_plant, PlantCheck};
 
+use domino::Shape;
 use fault::Fault;
 use flatten::{flatten, PART_BYTES};
 use kb::Kb;
@@ -63,6 +66,15 @@ impl Counts {
     #[must_use]
     pub fn marks(&self) -> u64 {
         self.traits + self.fresh + self.some + self.only
+    }
+
+    /// The shape of the dominoes of a sheet that has these.
+    #[must_use]
+    pub fn shape(&self) -> Shape {
+        Shape {
+            parts: self.marks() as usize,
+            roles: self.links as usize,
+        }
     }
 }
 

@@ -24,10 +24,7 @@ fn members(shape: Shape, set: &[u64]) -> Dominoes {
 /// The initial and the canonical set of a sheet.
 fn initial_and_canonical(sheet: &[u8]) -> [Dominoes; 2] {
     let counts = read(sheet).expect("a sheet without faults");
-    let shape = Shape {
-        parts: counts.marks() as usize,
-        roles: counts.links as usize,
-    };
+    let shape = counts.shape();
     let mut set = vec![0; shape.words()];
     open(sheet, &mut set).expect("a set long enough");
     let initial = members(shape, &set);

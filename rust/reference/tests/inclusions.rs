@@ -5,7 +5,7 @@ use comparison::inclusions::{spelt_out, suites, without};
 use comparison::random::Random;
 use comparison::suites::report;
 use comparison::{few_axioms, made_up, worked, Reference};
-use reference::domino::{has, insert, Shape};
+use reference::domino::{has, insert};
 use reference::flat::flatten;
 use reference::written::{Role, Written};
 use reference::{open, read, strike, Conditions, Verdict};
@@ -138,10 +138,7 @@ fn an_axiom_in_the_place_of_an_inclusion() {
     assert_eq!(without(&sheet), worked::from_hex("10 00 10 01 13 00 01"));
     let shape = |sheet: &[u8]| {
         let counts = read(sheet).expect("a sheet without faults");
-        Shape {
-            parts: counts.marks() as usize,
-            roles: counts.links as usize,
-        }
+        counts.shape()
     };
     assert_eq!((shape(&sheet).parts, shape(&spelt.sheet).parts), (0, 1));
 }

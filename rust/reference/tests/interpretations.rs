@@ -5,7 +5,7 @@
 use comparison::random::Random;
 use comparison::suites::report;
 use comparison::{few_axioms, made_up, worked};
-use reference::domino::{has, Domino, Shape};
+use reference::domino::{has, Domino};
 use reference::interpretation;
 use reference::written::{Concept, Role, Written};
 use reference::{judge, list_marks, read, Counts};
@@ -200,10 +200,7 @@ impl Tally {
         let written = Written::read(sheet).expect("a sheet without faults");
         let mut marks = vec![0; 3 * counts.marks() as usize];
         list_marks(sheet, &mut marks).expect("a list long enough");
-        let shape = Shape {
-            parts: counts.marks() as usize,
-            roles: counts.links as usize,
-        };
+        let shape = counts.shape();
         let mut judged = vec![0; shape.words()];
         let judgement = judge(sheet, &mut judged).expect("a set long enough");
 

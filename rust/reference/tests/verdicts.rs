@@ -5,7 +5,7 @@ use comparison::random::Random;
 use comparison::suites::{report, times};
 use comparison::{claims, few_axioms, made_up, worked};
 use reference::domino::{has, insert, Domino, Shape};
-use reference::{apart, judge, list_marks, read, Counts, Judgement};
+use reference::{apart, judge, list_marks, read, Judgement};
 use std::fmt;
 
 /// Sheets that both accept.
@@ -13,13 +13,6 @@ const SHEETS: u64 = 24_000;
 
 /// What parts and roles come to at most, with each occurrence apart.
 const MOST: u64 = 7;
-
-fn shape(counts: Counts) -> Shape {
-    Shape {
-        parts: counts.marks() as usize,
-        roles: counts.links as usize,
-    }
-}
 
 /// A label without the parts that are not kept.
 fn without_repeats(label: u64, kept: &[usize]) -> u64 {
@@ -41,8 +34,8 @@ impl Both {
         let shared = shared.expect("no more parts than apart");
         Some(Both {
             sheet,
-            shared: shape(shared),
-            apart: shape(apart),
+            shared: shared.shape(),
+            apart: apart.shape(),
         })
     }
 

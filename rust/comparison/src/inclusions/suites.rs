@@ -23,10 +23,7 @@ impl Judged {
     /// Judges a sheet without faults; none if it has more parts and roles.
     fn of(engine: &impl Judging, sheet: &[u8]) -> Option<Self> {
         let counts = read(sheet).ok()?;
-        let shape = Shape {
-            parts: counts.marks() as usize,
-            roles: counts.links as usize,
-        };
+        let shape = counts.shape();
         if shape.parts + shape.roles > MOST {
             return None;
         }

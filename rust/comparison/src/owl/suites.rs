@@ -10,7 +10,6 @@ use crate::hex::{from_hex, Hex};
 use crate::random::Random;
 use crate::suites::times;
 use crate::{damage, few_axioms, made_up, worked, Judging, Reference, Translating};
-use reference::domino::Shape;
 use reference::{Counts, Judgement, Refusal};
 use std::fmt;
 
@@ -383,10 +382,7 @@ impl RoundTrips {
 /// none if these are many.
 fn judged(engine: &impl Judging, sheet: &[u8]) -> Option<(Counts, Judgement, Vec<u64>)> {
     let counts = reference::read(sheet).expect("a sheet without faults");
-    let shape = Shape {
-        parts: counts.marks() as usize,
-        roles: counts.links as usize,
-    };
+    let shape = counts.shape();
     if shape.words() > WORDS {
         return None;
     }

@@ -6,7 +6,7 @@ use super::{Drawing, MOST};
 use crate::hex::{from_hex, Hex};
 use crate::worked::{S1, S6};
 use crate::Checking;
-use reference::domino::{insert, Shape};
+use reference::domino::insert;
 use reference::{PlantCheck, Refusal};
 
 /// What a set holds before.
@@ -23,10 +23,7 @@ fn assert_checked(
 ) {
     let what = format!("{}, plant of {} bytes", Hex(sheet), plant.len());
     let counts = reference::read(sheet).expect(&what);
-    let shape = Shape {
-        parts: counts.marks() as usize,
-        roles: counts.links as usize,
-    };
+    let shape = counts.shape();
     let words = shape.words();
     let mut written = vec![0; words];
     for &number in numbers {

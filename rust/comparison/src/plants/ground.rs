@@ -3,7 +3,7 @@
 use super::sheet;
 use crate::inclusions;
 use crate::random::Random;
-use reference::domino::{has, Domino, Shape};
+use reference::domino::{Domino, Shape};
 use reference::{judge, list_marks, read, Counts};
 use std::collections::BTreeMap;
 
@@ -28,9 +28,8 @@ impl Survivors {
     fn of(sheet: &[u8], shape: Shape) -> Self {
         let mut set = vec![0; shape.words()];
         judge(sheet, &mut set).expect("a set long enough");
-        let numbers = (0..shape.dominoes()).filter(|&number| has(&set, number));
         let mut survivors = Survivors::default();
-        for domino in numbers.map(|number| shape.domino(number)) {
+        for domino in shape.members(&set) {
             survivors.dominoes.push(domino);
             if survivors.labels.last() != Some(&domino.left) {
                 survivors.labels.push(domino.left);
@@ -82,10 +81,7 @@ impl Ground {
     #[must_use]
     pub fn of(sheet: Vec<u8>) -> Self {
         let counts = read(&sheet).expect("a sheet without faults");
-        let shape = Shape {
-            parts: counts.marks() as usize,
-            roles: counts.links as usize,
-        };
+        let shape = counts.shape();
         let mut list = vec![0; 3 * shape.parts];
         list_marks(&sheet, &mut list).expect("a list long enough");
         let kinds = list.chunks_exact(3).map(|part| part[0]);

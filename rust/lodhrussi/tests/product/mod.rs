@@ -1,13 +1,13 @@
 //! The library as the suites take what they compare.
 
-use comparison::{Checking, Judging, Reading, Translating};
+use comparison::{Checking, Judging, Planting, Reading, Translating};
 use lodhrussi::Call;
 use reference::{Counts, Judgement, PlantCheck, Refusal, Strike, Verdict};
 
 pub struct Product;
 
 /// The reference's form of a refusal of that call.
-fn refused(call: Call) -> impl Fn(lodhrussi::Refusal) -> Refusal {
+pub fn refused(call: Call) -> impl Fn(lodhrussi::Refusal) -> Refusal {
     move |refusal| {
         assert_eq!(refusal.call, call);
         Refusal {
@@ -94,5 +94,11 @@ impl Checking for Product {
             lodhrussi::PlantCheck::Item(item) => PlantCheck::Item(item),
             lodhrussi::PlantCheck::Pair(from, to) => PlantCheck::Pair(from, to),
         })
+    }
+}
+
+impl Planting for Product {
+    fn draw_plant(&self, sheet: &[u8], set: &mut [u64], out: &mut [u8]) -> Result<usize, Refusal> {
+        lodhrussi::draw_plant(sheet, set, out).map_err(refused(Call::DrawPlant))
     }
 }

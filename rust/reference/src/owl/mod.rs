@@ -12,6 +12,7 @@ mod tokens;
 mod tests;
 
 use crate::fault::{Fault, Refusal};
+use crate::output::put;
 use crate::written::{Axiom, Written};
 
 /// The axioms of a text.
@@ -59,12 +60,4 @@ fn without_text(written: &Written) -> Option<usize> {
         .chain(&written.inclusion_starts)
         .min()
         .copied()
-}
-
-/// Puts bytes at the front of the output, if there is room.
-fn put(bytes: &[u8], out: &mut [u8]) -> Result<usize, Refusal> {
-    let room = out.get_mut(..bytes.len());
-    let room = room.ok_or(Refusal::of_whole(Fault::OutputTooShort))?;
-    room.copy_from_slice(bytes);
-    Ok(bytes.len())
 }

@@ -1,7 +1,7 @@
-//! A plant's bytes, checked and read into individuals and connections.
+//! A plant's bytes, checked and read into individuals and connections; and written.
 
 use crate::fault::{Fault, Refusal};
-use crate::flat::{FlatKb, Part};
+use crate::flat::FlatKb;
 
 const INDIVIDUAL: u8 = 0x40;
 const CONNECTION: u8 = 0x41;
@@ -9,7 +9,7 @@ const CONNECTION: u8 = 0x41;
 const MOST_INDIVIDUALS: usize = 1_024;
 
 /// A role from one individual to another.
-#[derive(Clone, Copy)]
+#[derive(Clone, Copy, PartialEq, Eq, PartialOrd, Ord)]
 pub(super) struct Connection {
     pub from: u16,
     pub to: u16,
@@ -21,6 +21,24 @@ pub(super) struct File {
     /// The bits of each: its names and fresh names.
     pub individuals: Vec<u64>,
     pub connections: Vec<Connection>,
+}
+
+impl File {
+    /// Its bytes, the individuals first.
+    pub fn bytes(&self) -> Vec<u8> {
+        let mut bytes = Vec::new();
+        for &bits in &self.individuals {
+            bytes.push(INDIVIDUAL);
+            bytes.extend((bits as u16).to_le_bytes());
+        }
+        for connection in &self.connections {
+            bytes.push(CONNECTION);
+            bytes.extend(connection.from.to_le_bytes());
+            bytes.extend(connection.to.to_le_bytes());
+            bytes.push(connection.role);
+        }
+        bytes
+    }
 }
 
 /// A record with its whole body.
@@ -89,10 +107,8 @@ impl Reader<'_> {
         if self.file.individuals.len() == MOST_INDIVIDUALS {
             return Err(Fault::TooManyIndividuals);
         }
-        let is_name =
-            |bit: usize| matches!(self.kb.parts.get(bit), Some(Part::Name | Part::Fresh(_)));
         let mut set = (0..16).filter(|bit| bits >> bit & 1 == 1);
-        if !set.all(is_name) {
+        if !set.all(|bit| self.kb.is_drawn(bit)) {
             return Err(Fault::NotInPlant);
         }
         self.file.individuals.push(bits);

@@ -1,4 +1,5 @@
-//! Plants on file against a sheet, written from document 02's request N10 alone.
+//! Plants on file against a sheet, written from document 02's request N10 alone, and
+//! drawn of a sheet, from N11.
 //!
 //! A plant is a finite interpretation: its individuals (document 01: items) with
 //! their names, the connections between them, and beside that fresh names as
@@ -6,11 +7,13 @@
 
 mod drawn;
 mod file;
+mod layers;
 
 #[cfg(test)]
 mod tests;
 
 pub use drawn::Breaches;
+pub use layers::{draw_plant, drawn_plant};
 
 use crate::domino::insert;
 use crate::fault::{Fault, Refusal};
