@@ -2,6 +2,7 @@
 
 use comparison::plants::{individual, Connection};
 use comparison::random::Random;
+use comparison::{few_axioms, made_up};
 use reference::flat::{flatten, Part};
 
 /// A plant under construction.
@@ -72,4 +73,14 @@ pub fn names(sheet: &[u8]) -> u16 {
     let parts = kb.parts.iter().enumerate();
     let drawn = parts.filter(|(_, part)| matches!(part, Part::Name | Part::Fresh(_)));
     drawn.fold(0, |names, (part, _)| names | 1 << part)
+}
+
+/// A sheet whose parts and roles come to at most 7.
+#[must_use]
+pub fn small_sheet(turn: u64, random: &mut Random) -> Vec<u8> {
+    let size = 1 + turn as usize / 2 % 7;
+    match turn % 2 {
+        0 => few_axioms::sheet(size, random),
+        _ => made_up::small_sheet(size, random),
+    }
 }

@@ -2,10 +2,10 @@
 
 use bench::families::Family;
 use bench::plain;
-use bench::plants::{names, Plant};
+use bench::plants::{names, small_sheet, Plant};
 use comparison::random::Random;
 use comparison::suites::{report, times};
-use comparison::{few_axioms, made_up, REFUSALS};
+use comparison::REFUSALS;
 use lodhrussi::PlantCheck;
 use std::fmt;
 
@@ -95,20 +95,11 @@ fn plant(sheet: &[u8], items: u16, random: &mut Random) -> Plant {
     plant
 }
 
-/// A sheet whose parts and roles come to at most 7.
-fn sheet(turn: u64, random: &mut Random) -> Vec<u8> {
-    let size = 1 + turn as usize / 2 % 7;
-    match turn % 2 {
-        0 => few_axioms::sheet(size, random),
-        _ => made_up::small_sheet(size, random),
-    }
-}
-
 #[test]
 fn small_plants() {
     let (mut random, mut tally) = (Random::seeded(93), Tally::default());
     for turn in 0..times(20_000) {
-        let sheet = sheet(turn, &mut random);
+        let sheet = small_sheet(turn, &mut random);
         let items = 1 + random.below(5) as u16;
         let plant = plant(&sheet, items, &mut random);
         let words = words_needed(&sheet) + random.below(3);
@@ -195,7 +186,7 @@ fn damaged(plant: &Plant, random: &mut Random) -> Vec<u8> {
 fn damaged_plants() {
     let (mut random, mut tally) = (Random::seeded(95), Tally::default());
     for turn in 0..times(20_000) {
-        let sheet = sheet(turn, &mut random);
+        let sheet = small_sheet(turn, &mut random);
         let items = random.below(4) as u16;
         let plant = damaged(&plant(&sheet, items, &mut random), &mut random);
         let missing = usize::from(random.one_in(20));
@@ -203,7 +194,7 @@ fn damaged_plants() {
         tally.compare(&sheet, &plant, words, &mut random);
     }
     for turn in 0..times(200) {
-        let sheet = sheet(turn, &mut random);
+        let sheet = small_sheet(turn, &mut random);
         let mut full = Plant::default();
         full.random_items(1_024, names(&sheet), &mut random);
         let last = random.pick(&[&[0x40, 0, 0][..], &[0x40, 0, 0x80], &[0x40, 0], &[0x41; 6]]);

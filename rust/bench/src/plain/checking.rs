@@ -1,7 +1,7 @@
 //! The check of a drawn plant: a pass over the file for its faults and items, then
 //! two rounds of blocks of rows, each block filled by a pass over the connections.
 
-use super::tables::{filler_is_in, Restriction, Tables};
+use super::tables::{filler_is_in, mask, Tables};
 use lodhrussi::PlantCheck;
 
 const ITEM: u8 = 0x40;
@@ -26,7 +26,7 @@ impl Drawn {
 
     /// The items, or the number of the first refusal.
     pub fn read(tables: &Tables, plant: &[u8]) -> Result<Self, u64> {
-        let (named, roles) = (named(tables), tables.sizes.role_set / 2);
+        let (named, roles) = (tables.named(), tables.sizes.roles());
         let mut drawn = Drawn {
             count: 0,
             names: [0; ITEMS],
@@ -64,18 +64,6 @@ impl Drawn {
         self.count += 1;
         Ok(())
     }
-}
-
-/// The parts that are no restrictions.
-fn named(tables: &Tables) -> u16 {
-    let restrictions = mask(&tables.exists) | mask(&tables.forall);
-    let parts = (1 << tables.sizes.label) - 1;
-    parts & !restrictions
-}
-
-fn mask(restrictions: &[Restriction]) -> u16 {
-    let bits = restrictions.iter().map(|restriction| 1 << restriction.part);
-    bits.fold(0, |mask, bit: u16| mask | bit)
 }
 
 /// What there is of restrictions.
