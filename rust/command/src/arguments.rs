@@ -15,6 +15,7 @@ pub enum Question {
     Show(Show),
     Strike(Strike),
     Check(Check),
+    Draw(Draw),
     Import(Import),
     Export(Export),
 }
@@ -68,6 +69,29 @@ pub struct Check {
     pub names: Option<OsString>,
 }
 
+/// `lodhrussi draw`
+#[derive(Clone, Debug, PartialEq, Eq)]
+pub struct Draw {
+    pub file: OsString,
+    pub form: Drawing,
+    pub names: Option<OsString>,
+}
+
+/// How a plant is drawn.
+#[derive(Clone, Debug, PartialEq, Eq)]
+pub enum Drawing {
+    /// For people.
+    Table,
+    /// As hex text.
+    Records,
+    /// As DOT text.
+    Dot,
+    /// As SVG, in that file.
+    Svg(OsString),
+    /// As a JSON object.
+    Json,
+}
+
 /// `lodhrussi import`
 #[derive(Clone, Debug, PartialEq, Eq)]
 pub struct Import {
@@ -92,7 +116,9 @@ pub fn parse(arguments: impl IntoIterator<Item = OsString>) -> Result<Question, 
     let mut arguments = arguments.into_iter();
     let wrong = |what: String| Err(format!("{what}; lodhrussi --help tells how to ask"));
     let Some(first) = arguments.next() else {
-        return wrong("name a subcommand: judge, show, strike, check, import or export".into());
+        return wrong(
+            "name a subcommand: judge, show, strike, check, draw, import or export".into(),
+        );
     };
     let rest = arguments.collect();
     match first.to_str() {
@@ -103,6 +129,7 @@ pub fn parse(arguments: impl IntoIterator<Item = OsString>) -> Result<Question, 
         Some("show") => of(Topic::Show, rest, show),
         Some("strike") => of(Topic::Strike, rest, strike),
         Some("check") => of(Topic::Check, rest, check),
+        Some("draw") => of(Topic::Draw, rest, draw),
         Some("import") => of(Topic::Import, rest, import),
         Some("export") => of(Topic::Export, rest, export),
         _ if is_option(&first) => wrong(format!("there is no option {}", first.display())),
@@ -143,7 +170,7 @@ fn of(
 
 fn judge(given: Given) -> Result<Question, String> {
     let form = match (given.lines, given.json) {
-        (true, true) => return Err("--lines and --json are two forms; ask for one".into()),
+        (true, true) => return Err(two_forms("--lines", "--json")),
         (true, false) => Form::Lines,
         (false, true) => Form::Json,
         (false, false) => Form::Text,
@@ -211,6 +238,33 @@ fn check(mut given: Given) -> Result<Question, String> {
     }))
 }
 
+fn draw(mut given: Given) -> Result<Question, String> {
+    let file = given.only_file()?;
+    let forms = [
+        ("--records", given.records.then_some(Drawing::Records)),
+        ("--dot", given.dot.then_some(Drawing::Dot)),
+        ("--svg", given.svg.map(Drawing::Svg)),
+        ("--json", given.json.then_some(Drawing::Json)),
+    ];
+    let mut asked = forms
+        .into_iter()
+        .filter_map(|(option, form)| Some((option, form?)));
+    let form = match (asked.next(), asked.next()) {
+        (Some((first, _)), Some((second, _))) => return Err(two_forms(first, second)),
+        (Some((_, form)), None) => form,
+        (None, _) => Drawing::Table,
+    };
+    Ok(Question::Draw(Draw {
+        file,
+        form,
+        names: given.names,
+    }))
+}
+
+fn two_forms(first: &str, second: &str) -> String {
+    format!("{first} and {second} are two forms; ask for one")
+}
+
 /// The number of a domino (document 01: pairing).
 fn number(operand: &OsStr) -> Result<u64, String> {
     let shown = operand.display();
@@ -240,6 +294,9 @@ struct Given {
     help: bool,
     lines: bool,
     json: bool,
+    records: bool,
+    dot: bool,
+    svg: Option<OsString>,
     jobs: Option<NonZeroUsize>,
     names: Option<OsString>,
     ontology: Option<String>,
@@ -271,6 +328,7 @@ impl Given {
     ) -> Result<(), String> {
         let (option, value) = split(argument);
         let judges = topic == Topic::Judge;
+        let draws = topic == Topic::Draw;
         match (option.to_str(), &value) {
             (Some("--help" | "-h"), None) => self.help = true,
             (Some("--json"), None) => self.json = true,
@@ -282,6 +340,12 @@ impl Given {
             (Some("--names"), _) => {
                 let value = value.or_else(|| following.pop_front());
                 self.names = Some(value.ok_or("--names wants a FILE after it")?);
+            }
+            (Some("--records"), None) if draws => self.records = true,
+            (Some("--dot"), None) if draws => self.dot = true,
+            (Some("--svg"), _) if draws => {
+                let value = value.or_else(|| following.pop_front());
+                self.svg = Some(value.ok_or("--svg wants an OUT after it")?);
             }
             (Some("--ontology"), _) if topic == Topic::Export => {
                 let value = value.or_else(|| following.pop_front());
@@ -385,6 +449,7 @@ mod tests {
             ("strike --help", help(Topic::Strike)),
             ("help check", help(Topic::Check)),
             ("check s -h", help(Topic::Check)),
+            ("draw --dot --json -h", help(Topic::Draw)),
             ("help import", help(Topic::Import)),
             ("export --help --ontology a:b", help(Topic::Export)),
             ("--version", Ok(Question::Version)),
@@ -474,6 +539,31 @@ mod tests {
         assert_eq!(asked(line), check(true, Some("n")));
     }
 
+    #[test]
+    fn questions_about_a_plant_to_be_drawn() {
+        let draw = |form, names: Option<&str>| {
+            Ok(Question::Draw(Draw {
+                file: "-".into(),
+                form,
+                names: names.map(OsString::from),
+            }))
+        };
+        let svg = |out: &str| Drawing::Svg(out.into());
+        let rows = [
+            ("draw -", draw(Drawing::Table, None)),
+            ("draw --records -", draw(Drawing::Records, None)),
+            ("draw - --dot --names n", draw(Drawing::Dot, Some("n"))),
+            ("draw --json --json -", draw(Drawing::Json, None)),
+            ("draw --svg o -", draw(svg("o"), None)),
+            ("draw - --svg=o=p", draw(svg("o=p"), None)),
+            ("draw --svg - -", draw(svg("-"), None)),
+            ("draw --svg --dot -", draw(svg("--dot"), None)),
+        ];
+        for (line, expected) in rows {
+            assert_eq!(asked(line), expected, "{line}");
+        }
+    }
+
     /// Asserts what is said of lines that begin so, and where help is.
     #[track_caller]
     fn assert_wrong(subcommand: &str, rows: &[(&str, &str)]) {
@@ -493,7 +583,7 @@ mod tests {
         let rows = [
             (
                 "",
-                "name a subcommand: judge, show, strike, check, import or export",
+                "name a subcommand: judge, show, strike, check, draw, import or export",
             ),
             ("weigh f", "there is no subcommand 'weigh'"),
             ("-", "there is no subcommand '-'"),
@@ -567,6 +657,33 @@ mod tests {
             ("s p --names", "--names wants a FILE after it"),
         ];
         assert_wrong("check", &rows);
+    }
+
+    #[test]
+    fn what_cannot_be_drawn() {
+        let rows = [
+            ("", "name a FILE, or - for standard input"),
+            ("--svg f", "name a FILE, or - for standard input"),
+            ("f g", "name one FILE and no more"),
+            ("f --svg", "--svg wants an OUT after it"),
+            ("--lines f", "there is no option --lines"),
+            ("--svg", "--svg wants an OUT after it"),
+            ("--records=p f", "there is no option --records=p"),
+            ("- --names=-", "standard input (-) can be read only once"),
+        ];
+        assert_wrong("draw", &rows);
+        let forms = ["--records", "--dot", "--svg=o", "--json"];
+        for (first, second) in [(0, 1), (0, 2), (0, 3), (1, 2), (1, 3), (2, 3)] {
+            let [first, second] = [forms[first], forms[second]];
+            let [told, also] = [first, second].map(|form| form.trim_end_matches("=o"));
+            let wrong = format!("{told} and {also} are two forms; ask for one");
+            assert_wrong("draw", &[(&format!("{first} f {second}"), &wrong)]);
+            assert_wrong("draw", &[(&format!("{second} {first} f"), &wrong)]);
+        }
+        for form in &forms[..3] {
+            let wrong = format!("there is no option {form}");
+            assert_wrong("export", &[(&format!("{form} f"), &wrong)]);
+        }
     }
 
     #[test]

@@ -8,16 +8,18 @@ pub enum Topic {
     Show,
     Strike,
     Check,
+    Draw,
     Import,
     Export,
 }
 
 impl Topic {
-    pub const SUBCOMMANDS: [Topic; 6] = [
+    pub const SUBCOMMANDS: [Topic; 7] = [
         Topic::Judge,
         Topic::Show,
         Topic::Strike,
         Topic::Check,
+        Topic::Draw,
         Topic::Import,
         Topic::Export,
     ];
@@ -30,6 +32,7 @@ impl Topic {
             Topic::Show => "show",
             Topic::Strike => "strike",
             Topic::Check => "check",
+            Topic::Draw => "draw",
             Topic::Import => "import",
             Topic::Export => "export",
         }
@@ -43,6 +46,7 @@ impl Topic {
             Topic::Show => SHOW,
             Topic::Strike => STRIKE,
             Topic::Check => return [CHECK, NAMES, SHEETS, PLANTS, STATUS].concat(),
+            Topic::Draw => DRAW,
             Topic::Import => return [IMPORT, NAMES, STATUS].concat(),
             Topic::Export => EXPORT,
         };
@@ -52,13 +56,14 @@ impl Topic {
 
 const WHOLE: &str = "\
 lodhrussi decides whether the rules of a sheet can all be kept at once: by some
-finite plant of at least one item, or by none; and whether a drawn plant keeps
-them.
+finite plant of at least one item, or by none; draws such a plant; and tells
+whether a drawn plant keeps them.
 
     lodhrussi judge FILE...            whether the sheets can be met
     lodhrussi show FILE                what a sheet says, record by record
     lodhrussi strike FILE NUMBER...    why pairings of a sheet cannot stand
     lodhrussi check SHEET PLANT        whether a drawn plant keeps a sheet
+    lodhrussi draw FILE                a plant that keeps a sheet
     lodhrussi import FILE              the sheet of an OWL text
     lodhrussi export FILE              the rules of a sheet as OWL text
 
@@ -133,6 +138,27 @@ Example:
     lodhrussi check sheets/coil.hex sheets/coil.plant
 ";
 
+const DRAW: &str = "\
+lodhrussi draw [OPTION...] FILE
+
+Draws a finite plant that keeps every rule of a sheet, or tells that there is
+none. For each survivor of judging the plant has three items, one in each of
+three layers, and connections join items of different layers alone. Its items
+and connections are printed as two tables. A sheet with more than 341 survivors
+is refused, since a plant has at most 1,024 items.
+
+    --records       print the plant as hex text instead, which lodhrussi check
+                    takes
+    --dot           print it as DOT text, which Graphviz takes
+    --svg OUT       put a picture of it into the file OUT, which takes the
+                    program dot of Graphviz; - is standard output
+    --json          print one object, for programs
+    --names FILE    the trade's own words for traits and links
+
+Example:
+    lodhrussi draw sheets/boiler.hex
+";
+
 const IMPORT: &str = "\
 lodhrussi import [OPTION...] FILE
 
@@ -192,7 +218,7 @@ const STATUS: &str = "
 Exit status: 0 every sheet can be met, the plant keeps the sheet, or the
 question is answered; 1 a sheet cannot be met, or the plant breaks a rule; 2 a
 sheet, a plant, a text or a number is refused; 3 trouble with a file, the
-arguments or the output. The largest counts.
+arguments, the output or Graphviz. The largest counts.
 ";
 
 #[cfg(test)]

@@ -1,10 +1,11 @@
-//! The command `lodhrussi`: judges and shows sheets, strikes pairings, checks drawn
-//! plants, and takes sheets from and to OWL text.
+//! The command `lodhrussi`: judges and shows sheets, strikes pairings, checks and
+//! draws plants, and takes sheets from and to OWL text.
 
 mod answer;
 mod arguments;
 mod check;
 mod count;
+mod draw;
 mod evaluation;
 mod export;
 mod help;
@@ -61,6 +62,7 @@ fn answer(question: &Question) -> Status {
         Question::Show(options) => show::run(options, &mut out),
         Question::Strike(options) => strike::run(options, &mut out),
         Question::Check(options) => check::run(options, &mut out),
+        Question::Draw(options) => draw::run(options, &mut out),
         Question::Import(options) => import::run(options, &mut out),
         Question::Export(options) => export::run(options, &mut out),
     };

@@ -80,12 +80,12 @@ impl Record<'_> {
     }
 
     /// The items of a connection.
-    fn ends(&self) -> [usize; 2] {
+    pub fn ends(&self) -> [usize; 2] {
         [FROM, TO].map(|bytes| usize::from(self.pair(bytes)))
     }
 
     /// The role of a connection.
-    fn role(&self) -> u8 {
+    pub fn role(&self) -> u8 {
         self.bytes.get(ROLE).copied().unwrap_or_default()
     }
 }

@@ -57,6 +57,18 @@ impl Sheet {
         })
     }
 
+    /// A sheet of hex text and the text of its names.
+    #[cfg(test)]
+    pub fn of_hex(hex: &str, names: &str, json: bool) -> Sheet {
+        Sheet {
+            file: "sheet.hex".into(),
+            bytes: comparison::worked::from_hex(hex),
+            refusal: None,
+            names: Names::parse(names).expect("names"),
+            json,
+        }
+    }
+
     /// The sheet's bytes.
     ///
     /// # Errors

@@ -8,7 +8,7 @@ pub enum Status {
     Unmet = 1,
     /// A refusal.
     Refused = 2,
-    /// A file, the usage or the output.
+    /// A file, the usage, the output or Graphviz.
     Trouble = 3,
 }
 

@@ -1,16 +1,5 @@
 use super::*;
-use crate::names::Names;
 use comparison::worked::{from_hex, S1, S6};
-
-fn sheet(hex: &str, names: &str, json: bool) -> Sheet {
-    Sheet {
-        file: "sheet.hex".into(),
-        bytes: from_hex(hex),
-        refusal: None,
-        names: Names::parse(names).expect("names"),
-        json,
-    }
-}
 
 fn plant(hex: &str) -> Source {
     Source {
@@ -34,7 +23,7 @@ const TWO_FRESH: &str = "03 00 10 00 11 00 04 00 07 01 03 20 00 04 04 00 08 02 0
 
 #[test]
 fn an_item_that_is_drawn_wrongly() {
-    let sheet = sheet(TWO_FRESH, "t0 = reheat coil", false);
+    let sheet = Sheet::of_hex(TWO_FRESH, "t0 = reheat coil", false);
     let plant = "40 15 00 40 00 00 41 00 00 01 00 00 41 01 00 00 00 00";
     let expected = "breaks a rule
 items 2, connections 2; pairings 4
@@ -58,7 +47,7 @@ Item 0 breaks no rule as written; the fresh marks drawn do not agree with their 
 
 #[test]
 fn an_object_of_an_item_that_is_drawn_wrongly() {
-    let sheet = sheet(TWO_FRESH, "t0 = coil", true);
+    let sheet = Sheet::of_hex(TWO_FRESH, "t0 = coil", true);
     let expected = concat!(
         r#"{"file":"sheet.hex","answer":"breaks","plant":"plant","items":1,"connections":0,"#,
         r#""pairings":1,"item":0,"traits":[],"worked_out_by_the_command":{"rules":[],"#,
@@ -93,19 +82,19 @@ fn refusals_say_what_is_refused() {
         assert_eq!(status, Status::Refused);
         text
     };
-    let text = of(&sheet(S1, "", false), "");
+    let text = of(&Sheet::of_hex(S1, "", false), "");
     assert!(text.starts_with("plant plant: refused 25\n"), "{text}");
-    let text = of(&sheet("04 00", "", false), "");
+    let text = of(&Sheet::of_hex("04 00", "", false), "");
     assert!(
         text.starts_with("sheet sheet.hex: refused 5 at byte 1\n"),
         "{text}"
     );
-    let text = of(&sheet(S1, "", true), "");
+    let text = of(&Sheet::of_hex(S1, "", true), "");
     assert!(
         text.ends_with("\"plant\":\"plant\",\"refused\":\"plant\"}\n"),
         "{text}"
     );
-    let text = of(&sheet("04 00", "", true), "");
+    let text = of(&Sheet::of_hex("04 00", "", true), "");
     assert!(
         text.ends_with("\"plant\":\"plant\",\"refused\":\"sheet\"}\n"),
         "{text}"
@@ -115,7 +104,7 @@ fn refusals_say_what_is_refused() {
 #[test]
 fn a_standard_output_that_cannot_be_written() {
     for json in [false, true] {
-        let sheet = sheet(S6, "", json);
+        let sheet = Sheet::of_hex(S6, "", json);
         for hex in ["40 01 00", "40 04 00", "42"] {
             let mut full: &mut [u8] = &mut [0; 10];
             let error = check(&sheet, &plant(hex), &mut full).expect_err("no room");

@@ -597,7 +597,7 @@ fn the_plants_in_the_repository() {
 }
 
 /// A sheet with a fresh name.
-fn with_fresh_name(size: usize, random: &mut Random) -> Vec<u8> {
+pub fn with_fresh_name(size: usize, random: &mut Random) -> Vec<u8> {
     loop {
         let sheet = few_axioms::sheet(size, random);
         if reference::read(&sheet).is_ok_and(|counts| counts.fresh > 0) {

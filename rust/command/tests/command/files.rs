@@ -25,6 +25,8 @@ fn assert_unread(folder: &Folder, file: &str, sentence: &str) {
         &["strike", file, "0"],
         &["check", file, "/dev/null"],
         &["check", "/dev/null", file],
+        &["draw", file],
+        &["draw", "--svg", "-", file],
     ] {
         run(folder, question).is(3, "", &err);
     }
@@ -37,6 +39,7 @@ fn assert_unread(folder: &Folder, file: &str, sentence: &str) {
         &["strike", "--json", file, "0"],
         &["check", "--json", file, "/dev/null"],
         &["check", "--json", "/dev/null", file],
+        &["draw", "--json", file],
     ] {
         run(folder, question).is(3, &object, &err);
     }

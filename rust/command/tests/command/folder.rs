@@ -1,9 +1,12 @@
 //! A folder for the files of one test.
 
+use crate::run::Ran;
+use comparison::program::fed;
 use std::fs;
 use std::path::{Path, PathBuf};
-use std::process;
+use std::process::{self, Command};
 use std::sync::atomic::{AtomicUsize, Ordering};
+use std::time::Duration;
 
 /// A folder of its own, which goes away with its files.
 pub struct Folder(PathBuf);
@@ -38,6 +41,23 @@ impl Folder {
         let above = path.parent().expect("a file has a folder");
         fs::create_dir_all(above).expect("a folder");
         fs::write(path, bytes).expect("a new file");
+    }
+
+    /// Writes a script. Another process writes it: one that this one has open
+    /// for writing is busy, and so it is for what another test starts meanwhile.
+    pub fn executable(&self, name: &str, script: impl AsRef<[u8]>) {
+        let mut shell = Command::new("/bin/sh");
+        shell.args([
+            "-c",
+            "mkdir -p \"${0%/*}\" && cat >\"$0\" && chmod +x \"$0\"",
+        ]);
+        shell.arg(self.path().join(name));
+        Ran::of(fed(
+            &mut shell,
+            [script.as_ref()].into_iter(),
+            Duration::ZERO,
+        ))
+        .is(0, "", "");
     }
 }
 

@@ -49,13 +49,14 @@ impl Root {
     fn with_tools(tools: &[(&str, &str)]) -> Self {
         let root = Root(Folder::new());
         let script = Path::new(env!("CARGO_MANIFEST_DIR")).join("../../lodhrussi");
-        root.executable("root/lodhrussi", &fs::read(script).expect("a launcher"));
+        let script = fs::read(script).expect("a launcher");
+        root.0.executable("root/lodhrussi", script);
         for source in SOURCES {
             root.0.write(source, "");
             root.age(source, 200);
         }
         for (name, script) in tools {
-            root.executable(&format!("tools/{name}"), script.as_bytes());
+            root.0.executable(&format!("tools/{name}"), script);
         }
         fs::create_dir_all(root.path("tools")).expect("a folder");
         for utility in UTILITIES {
@@ -79,18 +80,6 @@ impl Root {
 
     fn path(&self, name: &str) -> PathBuf {
         self.0.path().join(name)
-    }
-
-    /// Writes a script. Another process writes it: one that this one has open
-    /// for writing is busy, and so it is for what another test starts meanwhile.
-    fn executable(&self, name: &str, script: &[u8]) {
-        let mut shell = Command::new("/bin/sh");
-        shell.args([
-            "-c",
-            "mkdir -p \"${0%/*}\" && cat >\"$0\" && chmod +x \"$0\"",
-        ]);
-        shell.arg(self.path(name));
-        Ran::of(fed(&mut shell, [script].into_iter(), Duration::ZERO)).is(0, "", "");
     }
 
     /// Lets a file be so many seconds old.
@@ -206,12 +195,12 @@ fn an_old_library_is_not_built_with() {
 fn a_tool_that_fails() {
     let root = Root::with_tools(&[("rt", FAILING), ("cargo", CARGO)]);
     root.fails(PROVING, "why\n");
-    root.executable("tools/rt", RT.as_bytes());
-    root.executable("tools/cargo", FAILING.as_bytes());
+    root.0.executable("tools/rt", RT);
+    root.0.executable("tools/cargo", FAILING);
     root.fails(&[PROVING, BUILDING].concat(), "why\n");
     // a command that was built before is not asked where building it fails
     let root = Root::built();
     root.age(PROGRAM, 300);
-    root.executable("tools/cargo", FAILING.as_bytes());
+    root.0.executable("tools/cargo", FAILING);
     root.fails(BUILDING, "why\n");
 }

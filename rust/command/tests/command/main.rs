@@ -4,6 +4,7 @@
 mod drawn;
 mod folder;
 mod json;
+mod layers;
 mod run;
 mod said;
 mod sheets;
@@ -11,6 +12,7 @@ mod words;
 
 mod check;
 mod counts;
+mod draw;
 mod files;
 mod judge;
 mod judged;
@@ -24,5 +26,6 @@ mod refusals;
 mod show;
 mod shown;
 mod strike;
+mod svg;
 mod texts;
 mod usage;

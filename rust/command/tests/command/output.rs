@@ -12,7 +12,7 @@ const FULL: &str =
     "lodhrussi: the answer cannot be written: No space left on device (os error 28)\n";
 
 /// Arguments of every subcommand and form.
-const QUESTIONS: [&[&str]; 18] = [
+const QUESTIONS: [&[&str]; 24] = [
     &["--help"],
     &["--version"],
     &["judge", "--help"],
@@ -31,12 +31,19 @@ const QUESTIONS: [&[&str]; 18] = [
     &["check", "s1.hex", "bad.hex"],
     &["check", "--json", "s1.hex", "s1.plant"],
     &["check", "--json", "bad.hex", "s1.plant"],
+    &["draw", "s1.hex"],
+    &["draw", "--records", "s1.hex"],
+    &["draw", "--dot", "s1.hex"],
+    &["draw", "--json", "s1.hex"],
+    &["draw", "unmet.hex"],
+    &["draw", "--json", "bad.hex"],
 ];
 
 fn folder() -> Folder {
     Folder::with(&[
         ("s1.hex", S1),
         ("bad.hex", "04 00"),
+        ("unmet.hex", "01 02 20 00 01"),
         ("s1.plant", "40 01 00"),
     ])
 }

@@ -5,12 +5,13 @@ use crate::run::{lodhrussi, run, run_on, Ran};
 use comparison::worked::{S1, S6};
 use std::path::Path;
 
-const HELP: [(&str, &str); 7] = [
+const HELP: [(&str, &str); 8] = [
     ("", include_str!("help/whole.txt")),
     ("judge", include_str!("help/judge.txt")),
     ("show", include_str!("help/show.txt")),
     ("strike", include_str!("help/strike.txt")),
     ("check", include_str!("help/check.txt")),
+    ("draw", include_str!("help/draw.txt")),
     ("import", include_str!("help/import.txt")),
     ("export", include_str!("help/export.txt")),
 ];
@@ -59,6 +60,11 @@ fn the_examples_of_the_help() {
             "32: struck by condition 6, sym: Its mirror image is missing.",
         ),
         (0, "keeps the sheet"),
+        (
+            0,
+            "This plant of 18 items and 18 connections keeps every rule of the sheet; it has three \
+             layers of 6 items, one for each survivor.",
+        ),
         (0, "03 00      # 0  'reheat coil'"),
         (0, "Prefix(:=<http://example.org/coil#>)"),
     ];
@@ -78,7 +84,7 @@ fn the_version() {
 const WRONG: &[(&[&str], &str)] = &[
     (
         &[],
-        "name a subcommand: judge, show, strike, check, import or export",
+        "name a subcommand: judge, show, strike, check, draw, import or export",
     ),
     (&[""], "there is no subcommand ''"),
     (&["-"], "there is no subcommand '-'"),
@@ -225,6 +231,39 @@ const WRONG: &[(&[&str], &str)] = &[
     (
         &["check", "--lines", "s1.hex", "s1.plant"],
         "check: there is no option --lines",
+    ),
+    (&["draw"], "draw: name a FILE, or - for standard input"),
+    (
+        &["draw", "--svg", "s1.hex"],
+        "draw: name a FILE, or - for standard input",
+    ),
+    (
+        &["draw", "s1.hex", "s1.svg"],
+        "draw: name one FILE and no more",
+    ),
+    (
+        &["draw", "s1.hex", "--svg"],
+        "draw: --svg wants an OUT after it",
+    ),
+    (
+        &["draw", "--dot", "s1.hex", "--svg=s1.svg"],
+        "draw: --dot and --svg are two forms; ask for one",
+    ),
+    (
+        &["draw", "--dot", "--json", "--records", "s1.hex"],
+        "draw: --records and --dot are two forms; ask for one",
+    ),
+    (
+        &["draw", "--lines", "s1.hex"],
+        "draw: there is no option --lines",
+    ),
+    (
+        &["draw", "--dot=s1.dot", "s1.hex"],
+        "draw: there is no option --dot=s1.dot",
+    ),
+    (
+        &["check", "--dot", "s1.hex", "s1.plant"],
+        "check: there is no option --dot",
     ),
     (&["import"], "import: name a FILE, or - for standard input"),
     (
