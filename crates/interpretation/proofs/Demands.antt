@@ -163,9 +163,11 @@ module _ (sheet file ws vs : List ℕ) (r : Result Finding Refusal) (c : ChecksP
   -- one that is not reading's
   refused_late : (n p : ℕ) → Late n → p ≡ 0 → vs ≡ ws → Refused sheet ws vs n p
   refused_late n p t z q = record {
-    among = (check_refusal_numbers n).1 (⊎_elim (λ i. inl (inl (omega arith, omega arith))) inr t);
-    as_read = λ e. absurd (not_reading n t ((read_refusals n).0 e));
-    nowhere = λ e. z;
+    reasoned = record {
+      among = (check_refusal_numbers n).1 (⊎_elim (λ i. inl (inl (omega arith, omega arith))) inr t);
+      as_read = λ e. absurd (not_reading n t ((read_refusals n).0 e));
+      nowhere = λ e. z;
+    };
     untouched = q;
   }
 
@@ -275,9 +277,11 @@ module _ (sheet file ws vs : List ℕ) (r : Result Finding Refusal) (c : ChecksP
           let j : q ≡ p = cc in
           let f : read_kb limit sheet ≡ refusal n p = rw (← i, ← j) e in
           record {
-            among = or_l _ (or_l _ (refusal-number limit sheet f));
-            as_read = λ x. f;
-            nowhere = λ x. absurd (false≢true (sym x ∙ refusal-number limit sheet f));
+            reasoned = record {
+              among = or_l _ (or_l _ (refusal-number limit sheet f));
+              as_read = λ x. f;
+              nowhere = λ x. absurd (false≢true (sym x ∙ refusal-number limit sheet f));
+            };
             untouched = c.set ∙ ap (λ (s : Reading). check_leaves s file ws) e ∙ leaves-refused _ ws m q;
           }
       go (kb k) e = refused_read k e n p a

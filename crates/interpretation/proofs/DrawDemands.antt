@@ -10,14 +10,14 @@ use mathlib.Core.List.{List, [], ◌∷◌, ◌++◌}
 use lib.Dec.{eqb}
 use lib.ListN.{length, take, drop}
 use lib.Seq.{take_at, drop_at}
-use borrow.Author.Tests.{eqb-true, lt-ltb, le-ltb, ne_eqb, eq-eqb}
+use borrow.Author.Tests.{lt-ltb, le-ltb, ne_eqb, eq-eqb}
 use Rattle.std.specs.Prelude.{Result}
-use Rattle.bitset.proofs.Facts.{or_case, or_l, or_r_lem, is_false}
+use Rattle.bitset.proofs.Facts.{or_l, is_false}
 use Rattle.elimination.proofs.Written.{written_same}
 use Rattle.refusals.specs.declared.Refusal.{Refusal}
 use Rattle.syntax.specs.Reading.{Kb, Reading, refusal, kb, is_read_refusal, read_kb}
 use Rattle.syntax.specs.Answers.{limit}
-use Rattle.syntax.proofs.Refusals.{UpTo, read_refusals, refusal-number}
+use Rattle.syntax.proofs.Refusals.{UpTo, one_more, read_refusals, refusal-number}
 use Rattle.semantics.specs.Interpretations.{Satisfiable}
 use Rattle.semantics.specs.Conditions.{View, dominoes, canon, held}
 use Rattle.semantics.specs.Views.{kb_view}
@@ -158,21 +158,16 @@ Own n = (n ≡ 26) ⊎ ((n ≡ 27) ⊎ (n ≡ 21))
 
 pub draw_refusal_numbers : (n : ℕ) → (is_draw_refusal n ≡ true) ↔ (UpTo 10 n ⊎ Own n)
 unfolding is_draw_refusal
-draw_refusal_numbers n = (
-  λ t. ⊎_elim (λ i. inl ((set_refusals n).0 i)) (λ i. inr (own_of i)) (or_case (is_set_refusal n) _ t),
-  λ h. ⊎_elim (λ i. or_l _ ((set_refusals n).1 i)) (λ i. or_r_lem (is_set_refusal n) (of_own i)) h,
-)
-  where
-    own_of : (eqb n 26 || (eqb n 27 || eqb n 21)) ≡ true → Own n
-    own_of t =
-        ⊎_elim (λ i. inl (eqb-true n 26 i))
-        (λ i. inr (⊎_elim (λ j. inl (eqb-true n 27 j)) (λ j. inr (eqb-true n 21 j)) (or_case (eqb n 27) (eqb n 21) i)))
-        (or_case (eqb n 26) _ t)
-
-    of_own : Own n → (eqb n 26 || (eqb n 27 || eqb n 21)) ≡ true
-    of_own (inl i) = or_l _ (eq-eqb n 26 i)
-    of_own (inr (inl i)) = or_r_lem (eqb n 26) (or_l (eqb n 21) (eq-eqb n 27 i))
-    of_own (inr (inr i)) = or_r_lem (eqb n 26) (or_r_lem (eqb n 27) (eq-eqb n 21 i))
+draw_refusal_numbers n =
+    let a = one_more (is_set_refusal n) n 26 in
+    let b = one_more (is_set_refusal n || eqb n 26) n 27 in
+    let c = one_more ((is_set_refusal n || eqb n 26) || eqb n 27) n 21 in (
+      λ t. ⊎_elim
+          (λ u. ⊎_elim (λ v. ⊎_elim (λ i. inl ((set_refusals n).0 i)) (λ i. inr (inl i)) (a.0 v)) (λ i. inr (inr (inl i))) (b.0 u))
+          (λ i. inr (inr (inr i))) (c.0 t),
+      λ h. ⊎_elim (λ i. c.1 (inl (b.1 (inl (a.1 (inl ((set_refusals n).1 i)))))))
+          (⊎_elim (λ i. c.1 (inl (b.1 (inl (a.1 (inr i)))))) (⊎_elim (λ i. c.1 (inl (b.1 (inr i)))) (λ i. c.1 (inr i)))) h,
+    )
 
 own_late : (n : ℕ) → Own n → UpTo 10 n → ⊥
 own_late n o u = go o u
@@ -215,9 +210,11 @@ module _ (sheet ws vs out bytes : List ℕ) (r : Result ℕ Refusal) (c : DrawsP
       let late : is_set_refusal n ≡ false = is_false (is_set_refusal n) (λ t. own_late n o ((set_refusals n).0 t)) in
       let early : is_read_refusal n ≡ false = is_false (is_read_refusal n) (λ t. own_late n o (wide ((read_refusals n).0 t))) in
       record {
-        among = (draw_refusal_numbers n).1 (inr o);
-        as_read = λ t. absurd (false≢true (sym early ∙ t));
-        nowhere = λ t. z;
+        reasoned = record {
+          among = (draw_refusal_numbers n).1 (inr o);
+          as_read = λ t. absurd (false≢true (sym early ∙ t));
+          nowhere = λ t. z;
+        };
         untouched = q;
         early = λ t. absurd (false≢true (sym late ∙ t));
         late = λ t. c.set;
@@ -231,9 +228,7 @@ module _ (sheet ws vs out bytes : List ℕ) (r : Result ℕ Refusal) (c : DrawsP
   refused_early : (n p : ℕ) → is_set_refusal n ≡ true → (is_read_refusal n ≡ true → read_kb limit sheet ≡ refusal n p)
       → (is_read_refusal n ≡ false → p ≡ 0) → bytes ≡ out → vs ≡ ws → RefusedDrawing sheet ws vs out bytes n p
   refused_early n p t a z q s = record {
-    among = (draw_refusal_numbers n).1 (inl ((set_refusals n).0 t));
-    as_read = a;
-    nowhere = z;
+    reasoned = record { among = (draw_refusal_numbers n).1 (inl ((set_refusals n).0 t)); as_read = a; nowhere = z };
     untouched = q;
     early = λ u. s;
     late = λ f. absurd (false≢true (sym f ∙ t));

@@ -1,6 +1,6 @@
 -- What is demanded of the check of a drawn interpretation and of drawing one, beside their answers, words and bytes: their refusals, and
 -- what is drawn.
-use Rattle.std.specs.Prelude.{ℕ, ◌≤◌, ◌≡◌, true, false, List, [], ◌∷◌, length, take, drop}
+use Rattle.std.specs.Prelude.{ℕ, ◌≤◌, ◌≡◌, Bool, true, false, List, [], ◌∷◌, length, take, drop}
 use Rattle.syntax.specs.Reading.{Kb, refusal, kb, is_read_refusal, read_kb}
 use Rattle.syntax.specs.Answers.{limit}
 use Rattle.semantics.specs.Interpretations.{Interpretation, models}
@@ -12,18 +12,20 @@ use Rattle.drawings.specs.Meanings.{Draws}
 use Rattle.interpretation.specs.Answers.{is_check_refusal, check_says, check_leaves}
 use Rattle.interpretation.specs.DrawnPlant.{is_draw_refusal}
 
--- a refusal with number n at place p: its number; its place, which is reading's or 0; and "the set is untouched"
-pub record Refused (sheet before after : List ℕ) (n p : ℕ) : Type 0 where
-  pub among : is_check_refusal n ≡ true
+-- a refusal with number n at place p, of a call that refuses with the numbers `refusals`: its number; its place, which is reading's or 0
+pub record Reasoned (refusals : ℕ → Bool) (sheet : List ℕ) (n p : ℕ) : Type 0 where
+  pub among : refusals n ≡ true
   pub as_read : is_read_refusal n ≡ true → read_kb limit sheet ≡ refusal n p
   pub nowhere : is_read_refusal n ≡ false → p ≡ 0
+
+-- of a check: "the set is untouched"
+pub record Refused (sheet before after : List ℕ) (n p : ℕ) : Type 0 where
+  pub reasoned : Reasoned is_check_refusal sheet n p
   pub untouched : after ≡ before
 
--- the same of a drawing, for an output: "the output is then untouched; past judge's errors the set ends as judged"
+-- of a drawing, for an output: "the output is then untouched; past judge's errors the set ends as judged"
 pub record RefusedDrawing (sheet before after out bytes : List ℕ) (n p : ℕ) : Type 0 where
-  pub among : is_draw_refusal n ≡ true
-  pub as_read : is_read_refusal n ≡ true → read_kb limit sheet ≡ refusal n p
-  pub nowhere : is_read_refusal n ≡ false → p ≡ 0
+  pub reasoned : Reasoned is_draw_refusal sheet n p
   pub untouched : bytes ≡ out
   pub early : is_set_refusal n ≡ true → after ≡ before
   pub late : is_set_refusal n ≡ false → after ≡ judge_leaves (read_kb limit sheet) before

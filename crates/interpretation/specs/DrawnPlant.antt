@@ -20,7 +20,7 @@ draw_output s words = on_set refuse (λ k. canon_output (kb_view k)) s words
 
 -- the numbers it refuses with: a call's on a set, and its own
 unfoldable pub is_draw_refusal : ℕ → Bool
-is_draw_refusal n = is_set_refusal n || (eqb n 26 || (eqb n 27 || eqb n 21))
+is_draw_refusal n = ((is_set_refusal n || eqb n 26) || eqb n 27) || eqb n 21
 
 -- the contract: for a sheet read as s; "past judge's errors the set ends as judged"
 pub record DrawsPlant (s : Reading) (before after out bytes : List ℕ) (r : Result ℕ Refusal) : Type 0 where
