@@ -2,12 +2,12 @@
 use mathlib.Core.Path.{◌≡◌, refl, sym, ap, ap₂, subst, ◌∙◌}
 use mathlib.Core.Bool.{Bool, true, false, cond, not, ◌&&◌, ◌||◌}
 use Prim.Native.Nat.{ℕ, zero, suc, ◌+◌, ◌-◌, ◌*◌, ◌/◌, ◌%◌, ◌^◌, ◌≤◌, ◌<◌, min, max}
-use native.Mathlib.Nat.{mod-lt, pow-suc, le_refl, lt_of_lt_of_le, div-eq_of_lt}
+use native.Mathlib.Nat.{add-zero, mod-lt, pow-suc, le_refl, lt_of_le_of_lt, lt_of_lt_of_le, div-eq_of_lt}
 use native.Mathlib.Decide.{ℕ_discrete}
 use native.Mathlib.Omega.{arith}
 use lib.Dec.{eqb, ltb, ltb→lt, nltb→le}
-use lib.Pow.{pow_pos, pow_mono, high, low, split, field, mod-mod-pow, shr_lt, shr-shr}
-use lib.Bits.{bit_and, bit_or, and_block, or_block, and_shr, and_step, or_shr, or_step}
+use lib.Pow.{pow_pos, pow_mono, high, low, split, field, mod-mod-pow, shr_lt, shl-shr, shr-shr}
+use lib.Bits.{bit_and, bit_or, and_le_l, and_block, or_block, and_shr, and_step, or_shr, or_step}
 use borrow.Author.Tests.{lt-ltb, le-ltb}
 use Rattle.bitset.specs.Bits.{bit, word, word_at}
 use Rattle.bitset.proofs.Facts.{either, and_in, and_out}
@@ -107,6 +107,20 @@ bit-low x y n k h l =
     ∙ ap (λ (r : ℕ). r % 2 ^ (1 + k)) (low x n h))
     ∙ field y 1 k)
 
+-- and so does one of the lowest bits alone
+pub bit_mod : (x n k : ℕ) → k < n → bit (x % 2 ^ n) k ≡ bit x k
+bit_mod x n k h =
+    sym (bit-low (x / 2 ^ n) (x % 2 ^ n) n k (mod-lt x (pow_pos n)) h) ∙ ap (λ (y : ℕ). bit y k) (split x n)
+
+-- the bits of a number of n bits, and bit n above them
+pub bit_lower : (n x k : ℕ) → x < 2 ^ n → k < n → bit (2 ^ n + x) k ≡ bit x k
+bit_lower n x k h l = ap (λ (y : ℕ). bit y k) (omega arith) ∙ bit-low 1 x n k h l
+
+pub bit_top : (n x : ℕ) → x < 2 ^ n → bit (2 ^ n + x) n ≡ true
+bit_top n x h =
+    let e : 2 ^ n + x ≡ 1 * 2 ^ n + x = omega arith in
+    ap (λ (y : ℕ). bit y n) e ∙ ap (λ (q : ℕ). eqb (q % 2) 1) (high 1 n h)
+
 -- the bits of the word of a set are the set
 pub bit_word : (n : ℕ) (D : ℕ → Bool) (k : ℕ) → k < n → bit (word n D) k ≡ D k
 bit_word zero D k h = absurd (omega arith)
@@ -124,9 +138,7 @@ unfolding word
 word_bits zero x h = omega arith
 word_bits (suc n) x h =
     let l : x % 2 ^ n < 2 ^ n = mod-lt x (pow_pos n) in
-    let same : word n (bit x) ≡ word n (bit (x % 2 ^ n)) =
-    word_ext n (bit x) (bit (x % 2 ^ n))
-    (λ k i. ap (λ (y : ℕ). bit y k) (sym (split x n)) ∙ bit-low (x / 2 ^ n) (x % 2 ^ n) n k l i) in
+    let same : word n (bit x) ≡ word n (bit (x % 2 ^ n)) = word_ext n (bit x) (bit (x % 2 ^ n)) (λ k i. sym (bit_mod x n k i)) in
     word-suc n (bit x)
     ∙ ap₂ (λ (d r : ℕ). d * 2 ^ n + r)
     (top_of (x / 2 ^ n) (shr_lt 1 n (subst (λ (m : ℕ). x < 2 ^ m) (omega arith) h)))
@@ -142,6 +154,10 @@ bit_word_at D w k h = bit_word 64 (λ k. D (64 * w + k)) k h
 pub word_at_lt : (D : ℕ → Bool) (w : ℕ) → word_at D w < 2 ^ 64
 unfolding word_at
 word_at_lt D w = word_lt 64 (λ k. D (64 * w + k))
+
+-- the first word of a set
+pub bit_first : (D : ℕ → Bool) (x k : ℕ) → x ≡ word_at D 0 → k < 64 → bit x k ≡ D k
+bit_first D x k e h = ap (λ (y : ℕ). bit y k) e ∙ bit_word_at D 0 k h ∙ ap D (omega arith)
 
 -- sets with the same numbers of word w
 pub word_at_same : (D E : ℕ → Bool) (w : ℕ) → ((k : ℕ) → k < 64 → D (64 * w + k) ≡ E (64 * w + k)) → word_at D w ≡ word_at E w
@@ -195,6 +211,30 @@ column_high p w h =
 pub bit_past : (n x k : ℕ) → x < 2 ^ n → n ≤ k → bit x k ≡ false
 bit_past n x k h l = ap (λ (q : ℕ). eqb (q % 2) 1) (div-eq_of_lt (lt_of_lt_of_le h (pow_mono l)))
 
+pub bit_none : (k : ℕ) → bit 0 k ≡ false
+bit_none k = bit_past 0 0 k (omega arith) (omega arith)
+
+-- a number moved up by s digits has nothing below, and its own digits from there on
+pub bit_under : (x s k : ℕ) → k < s → bit (x * 2 ^ s) k ≡ false
+bit_under x s k h =
+    ap (λ (y : ℕ). bit y k) (sym (add-zero (x * 2 ^ s))) ∙ bit-low x 0 s k (pow_pos s) h ∙ bit_none k
+
+pub bit-over : (x s k : ℕ) → s ≤ k → bit (x * 2 ^ s) k ≡ bit x (k - s)
+bit-over x s k h =
+    let e : s + (k - s) ≡ k = omega arith in
+    ap (bit (x * 2 ^ s)) (sym e)
+    ∙ ap (λ (y : ℕ). eqb (y % 2) 1) (sym (shr-shr (x * 2 ^ s) s (k - s)) ∙ ap (λ (y : ℕ). y / 2 ^ (k - s)) (shl-shr x s))
+
+-- and no more than they were
+pub bit_beside : (n x s k : ℕ) → x < 2 ^ n → (s ≤ k → k < s + n → ⊥) → bit (x * 2 ^ s) k ≡ false
+bit_beside n x s k h out =
+    either (ltb k s) (λ t. bit_under x s k (ltb→lt k s t))
+    (λ t.
+    let l : s ≤ k = nltb→le k s t in
+    bit-over x s k l
+    ∙ bit_past n x (k - s) h
+    (either (ltb k (s + n)) (λ u. absurd (out l (ltb→lt k (s + n) u))) (λ u. omega (arith, nltb→le k (s + n) u))))
+
 pub column_past : (p w : ℕ) → w < 2 ^ 64 → 70 ≤ p → word_at (λ n. bit n p) w ≡ 0
 column_past p w h l =
     column_high p w (omega arith)
@@ -221,8 +261,7 @@ low_bits w n k =
     either (ltb k n)
     (λ t.
     let l = ltb→lt k n t in
-    sym (bit-low (w / 2 ^ n) (w % 2 ^ n) n k (mod-lt w (pow_pos n)) l) ∙ ap (λ (x : ℕ). bit x k) (split w n)
-    ∙ sym (and_in (bit w k) (ltb k n) (lt-ltb k n l)))
+    bit_mod w n k l ∙ sym (and_in (bit w k) (ltb k n) (lt-ltb k n l)))
     (λ t.
     let l : n ≤ k = nltb→le k n t in
     bit_past n (w % 2 ^ n) k (mod-lt w (pow_pos n)) l ∙ sym (and_out (bit w k) (ltb k n) (le-ltb k n l)))
@@ -244,6 +283,13 @@ bit_not n x k h l =
     ap (λ (y : ℕ). bit (2 ^ n - 1 - y) k) (sym (word_bits n x h))
     ∙ ap (λ (y : ℕ). bit y k) (word-not n (bit x))
     ∙ bit_word n (λ k. not (bit x k)) k l
+
+pub bit_and_lt : (n x y : ℕ) → x < 2 ^ n → bit_and x y < 2 ^ n
+bit_and_lt n x y h = lt_of_le_of_lt (and_le_l x y) h
+
+-- the bits of a number that another has not
+pub bit_and_not : (n w x k : ℕ) → x < 2 ^ n → k < n → bit (bit_and w (2 ^ n - 1 - x)) k ≡ (bit w k && not (bit x k))
+bit_and_not n w x k h l = bit_and_lem w (2 ^ n - 1 - x) k ∙ ap (λ (b : Bool). bit w k && b) (bit_not n x k h l)
 
 -- a set with nothing from n on has the same word in more bits
 pub word_past : (n m : ℕ) (D : ℕ → Bool) → n ≤ m → ((k : ℕ) → n ≤ k → k < m → D k ≡ false) → word m D ≡ word n D

@@ -3,3 +3,4 @@ pub mod Laws
 pub mod Words
 pub mod Sizes
 pub mod RunLaws
+pub mod AddedLaws

@@ -3,18 +3,18 @@ use mathlib.Core.Path.{◌≡◌, refl, sym, ap, ap₂, subst, ◌∙◌}
 use mathlib.Core.Bool.{Bool, false, cond, not, ◌&&◌, ◌||◌, and-true, or-false}
 use mathlib.Core.List.{List, [], ◌∷◌, ◌++◌}
 use Prim.Native.Nat.{ℕ, zero, suc, ◌+◌, ◌-◌, ◌*◌, ◌/◌, ◌%◌, ◌^◌, ◌≤◌, ◌<◌}
-use native.Mathlib.Nat.{mod-eq_of_lt}
+use native.Mathlib.Nat.{mod-lt, mod-eq_of_lt}
 use native.Mathlib.Decide.{ℕ_discrete}
 use native.Mathlib.Omega.{arith}
 use lib.Dec.{T, eqb, ltb, ltb→lt, lt→ltb}
-use lib.Bits.{bit_and, bit_or}
-use lib.Pow.{pow-lt}
+use lib.Bits.{bit_and, bit_or, and_mask}
+use lib.Pow.{pow-lt, pow_pos}
 use lib.ListN.{get_or, set, take, drop, length, length-set}
 use lib.Seq.{get_or-set_same, get_or-set_other, get_or-take, length-take-le}
 use borrow.Author.Tests.{eq-eqb, ne_eqb}
 use Rattle.bitset.specs.Bits.{Set, bit, word, word_at, look, words_from, words, are_words, without, with, cleared, inserted}
 use Rattle.bitset.proofs.Facts.{and_left, and_right, and_both}
-use Rattle.bitset.proofs.Laws.{word_lt, word_ext, word-not, word_and, word_or, word_none, bit_word, word_bits, bit_word_at, word_at_lt, word_at_same}
+use Rattle.bitset.proofs.Laws.{word_lt, word_ext, word-not, word_and, word_or, word_none, bit_mod, bit_word, word_bits, bit_word_at, word_at_lt, word_at_same}
 
 -- ---- one digit of a word
 
@@ -39,6 +39,12 @@ word-one (suc n) j h = go (ℕ_discrete n j) (word-one n j)
 pub shl_one : (j : ℕ) → j < 64 → 1 * 2 ^ j % 2 ^ 64 ≡ 2 ^ j
 shl_one j h = ap (λ (x : ℕ). x % 2 ^ 64) (omega arith) ∙ mod-eq_of_lt (pow-lt h)
 
+-- the n lowest bits, as the machine takes them
+pub mask_word : (x n : ℕ) → n < 64 → bit_and x (1 * 2 ^ n % 2 ^ 64 - 1) ≡ word n (bit x)
+mask_word x n h =
+    ap (λ (y : ℕ). bit_and x (y - 1)) (shl_one n h) ∙ and_mask x n ∙ sym (word_bits n (x % 2 ^ n) (mod-lt x (pow_pos n)))
+    ∙ word_ext n (bit (x % 2 ^ n)) (bit x) (λ k l. bit_mod x n k l)
+
 -- a digit is taken out by a mask
 pub word_clear : (n w j : ℕ) → w < 2 ^ n → j < n → bit_and w (2 ^ n - 1 - 2 ^ j) ≡ word n (without (bit w) j)
 word_clear n w j h l =
@@ -51,6 +57,17 @@ word_insert n w j h l =
     ap₂ bit_or (sym (word_bits n w h)) (sym (word-one n j l)) ∙ word_or n (bit w) (λ k. eqb k j)
 
 -- ---- lists of words
+
+-- a word of them is that of its numbers
+pub word_look : (ws : List ℕ) (i : ℕ) → get_or ws i 0 < 2 ^ 64 → get_or ws i 0 ≡ word_at (look ws) i
+unfolding word_at
+word_look ws i h =
+    sym (word_bits 64 (get_or ws i 0) h)
+    ∙ word_ext 64 (bit (get_or ws i 0)) (λ j. look ws (64 * i + j))
+    (λ j l.
+    let a : i ≡ (64 * i + j) / 64 = omega arith in
+    let b : j ≡ (64 * i + j) % 64 = omega arith in
+    ap₂ (λ (m n : ℕ). bit (get_or ws m 0) n) a b)
 
 -- the numbers of the first word, and of the rest
 pub look_head : (w : ℕ) (ws : List ℕ) (p : ℕ) → p < 64 → look (w ∷ ws) p ≡ bit w p
@@ -156,6 +173,12 @@ pub are-by : (ws : List ℕ) → ((i : ℕ) → get_or ws i 0 < 2 ^ 64) → T (a
 unfolding are_words
 are-by [] h = tt
 are-by (w ∷ ws) h = and_both (ltb w (2 ^ 64)) (are_words ws) (lt→ltb w (2 ^ 64) (h zero)) (are-by ws (λ i. h (suc i)))
+
+pub are-at : (ws : List ℕ) (i : ℕ) → T (are_words ws) → get_or ws i 0 < 2 ^ 64
+unfolding are_words
+are-at [] i t = pow_pos 64
+are-at (w ∷ ws) zero t = ltb→lt w (2 ^ 64) (and_left (ltb w (2 ^ 64)) (are_words ws) t)
+are-at (w ∷ ws) (suc i) t = are-at ws i (and_right (ltb w (2 ^ 64)) (are_words ws) t)
 
 pub are-set : (ws : List ℕ) (i v : ℕ) → T (are_words ws) → v < 2 ^ 64 → T (are_words (set ws i v))
 unfolding are_words

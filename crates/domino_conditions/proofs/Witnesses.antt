@@ -12,7 +12,8 @@ use Rattle.flattening.specs.declared.parts.Quantifier.{Quantifier}
 use Rattle.tbox.specs.declared.base.Filler.{Filler}
 use Rattle.tbox.specs.declared.base.Part.{Part}
 use Rattle.tbox.specs.Promise.{part_in}
-use Rattle.domino_conditions.specs.Tables.{filler_in_label_lem, role_holds_on_lem}
+use Rattle.tbox.specs.declared.base.Base.{Base}
+use Rattle.domino_conditions.specs.Tables.{view, filler_in_label_lem, role_holds_on_lem}
 use Rattle.domino_conditions.specs.Polarity.{wants, as_wanted_lem, wants_witness_lem, has_witness_lem, witnessed, row_defect_lem}
 use Rattle.domino_conditions.specs.Sets.{view_of, dominoes_of, found}
 use Rattle.domino_conditions.specs.declared.conditions.DominoSet.{DominoSet}
@@ -57,6 +58,16 @@ module _ (c l A : ℕ) (t : ℕ → Bool) (S : Set) where
 abbrev pub fits_filler : Quantifier → Filler → ℕ → Bool
 fits_filler q f B = as_wanted_lem (wants q) (filler_in_label_lem f B)
 
+-- among dominoes D it is of part k the witness of the conditions
+pub search_for : (b : Base) (D : Dominoes) (A k : ℕ) (p : Part) (q : Quantifier) (f : Filler) → part_in b k ≡ p
+    → ((B : ℕ) → filler_in_label_lem f B ≡ (view b).has k B)
+    → some (2 ^ (2 * b.size.roles)) (λ R. role_holds_on_lem p R && some (2 ^ b.size.parts) (λ B. fits_filler q f B && D A R B))
+    ≡ has_witness_lem (view b) (wants q) D A k
+unfolding has_witness_lem witness
+search_for b D A k p q f h e =
+    any_same _ _ _ (λ R u. ap₂ ◌&&◌ (ap (λ (x : Part). look x.role R) (sym h))
+    (any_same _ _ _ (λ B v. ap (λ (x : Bool). as_wanted_lem (wants q) x && D A R B) (e B))))
+
 module _ (d : DominoSet) (p : Part) (q : Quantifier) (f : Filler) (a : ℕ) where
   abbrev pub tried : ℕ → Bool
   tried = run_has_witness d.base.now.size.parts d.base.now.size.roles a (fits_filler q f) (look d.set.now) (role_holds_on_lem p)
@@ -73,12 +84,10 @@ module _ (d : DominoSet) (p : Part) (q : Quantifier) (f : Filler) (a : ℕ) wher
   pub found_hit : (R sets : ℕ) → sets ≡ 2 ^ (2 * d.base.now.size.roles) → R < sets → tried R ≡ true → true ≡ found d p q f a
   found_hit R sets g u e = sym (found_is ∙ any_intro (2 ^ (2 * d.base.now.size.roles)) tried R (omega arith) e)
 
-  -- of part k it is the witness of the conditions
   pub found_for : (k : ℕ) → part_in d.base.now k ≡ p → ((B : ℕ) → filler_in_label_lem f B ≡ (view_of d).has k B)
       → found d p q f a ≡ has_witness_lem (view_of d) (wants q) (dominoes_of d) a k
-  unfolding found has_witness_lem witness
-  found_for k h e = any_same _ _ _ (λ R u. ap₂ ◌&&◌ (ap (λ (x : Part). look x.role R) (sym h))
-      (any_same _ _ _ (λ B v. ap (λ (x : Bool). as_wanted_lem (wants q) x && dominoes_of d a R B) (e B))))
+  unfolding found
+  found_for k h e = search_for d.base.now (dominoes_of d) a k p q f h e
 
 -- ---- the walk over all parts
 

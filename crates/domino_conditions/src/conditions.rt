@@ -85,7 +85,7 @@ fn filler_of(part: &Part, quantifier: Quantifier) -> Option<Filler>
 
 // Quantifier and left label go side by side: a struct of the two has no fact of its own, and each call would build it to take it apart.
 // What part k, with this quantifier, wants of the row a: a witness with its filler (Exists), or without it (Forall).
-fn wanted_of_row(part: &Part, quantifier: Quantifier, a: usize, k: usize) -> Option<Filler>
+pub fn wanted_of_row(part: &Part, quantifier: Quantifier, a: usize, k: usize) -> Option<Filler>
     requires { k < 64 }
     ensures { WantedOfRow part.now quantifier a k result }
 {

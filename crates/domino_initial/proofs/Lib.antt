@@ -1,3 +1,4 @@
+pub mod WordTables
 pub mod Dropping
 pub mod MaskBits
 pub mod MaskWords

@@ -1,11 +1,15 @@
 -- Laws of `every` and `some`, the tests of each number below n.
 use mathlib.Core.Path.{◌≡◌, refl, sym, ap, ap₂, subst, ◌∙◌}
-use mathlib.Core.Bool.{Bool, true, false, not, ◌&&◌, ◌||◌, false≢true}
-use Prim.Native.Nat.{ℕ, zero, suc, ◌+◌, ◌<◌}
-use native.Mathlib.Nat.{not-suc-le-zero, le_refl}
+use mathlib.Core.Bool.{Bool, true, false, not, ◌&&◌, ◌||◌, cond, false≢true, and-true, and_assoc, and_comm}
+use Prim.Native.Nat.{ℕ, zero, suc, ◌+◌, ◌^◌, ◌<◌}
+use native.Mathlib.Nat.{zero-add, add-zero, add-suc, not-suc-le-zero, le_refl}
 use native.Mathlib.Numerals.{add-one}
 use native.Mathlib.Omega.{arith}
-use lib.Dec.{T}
+use lib.Dec.{T, eqb}
+use lib.Pow.{pow_pos}
+use borrow.Author.Tests.{ne_eqb}
+use Rattle.bitset.specs.Bits.{bit, word}
+use Rattle.bitset.proofs.Laws.{word_bits}
 use Rattle.bitset.proofs.Facts.{is_true, of_true, either, and_left, and_right, and_both, not_and_right, or_cases, or_left, or_right, is_false, not_or, not_and, and_swap, below_suc}
 use Rattle.elimination.specs.Sets.{every, some}
 
@@ -78,6 +82,16 @@ unfolding every
 every_and zero f g = refl
 every_and (suc n) f g = and_swap (f n) (every n f) (g n) (every n g) ∙ ap (λ (z : Bool). (f n && g n) && z) (every_and n f g)
 
+-- the numbers below m, and n numbers after them
+pub every_split : (m n : ℕ) (f : ℕ → Bool) → every (m + n) f ≡ (every m f && every n (λ k. f (m + k)))
+unfolding every
+every_split m zero f = ap (λ (x : ℕ). every x f) (add-zero m) ∙ sym (and-true (every m f))
+every_split m (suc n) f =
+    ap (λ (x : ℕ). every x f) (add-suc m n) ∙ ap (λ (x : Bool). f (m + n) && x) (every_split m n f)
+    ∙ sym (and_assoc (f (m + n)) (every m f) (every n (λ k. f (m + k))))
+    ∙ ap (λ (x : Bool). x && every n (λ k. f (m + k))) (and_comm (f (m + n)) (every m f))
+    ∙ and_assoc (every m f) (f (m + n)) (every n (λ k. f (m + k)))
+
 -- tests that agree below n
 pub all_same : (n : ℕ) (f g : ℕ → Bool) → ((k : ℕ) → k < n → f k ≡ g k) → every n f ≡ every n g
 unfolding every
@@ -88,6 +102,28 @@ pub any_same : (n : ℕ) (f g : ℕ → Bool) → ((k : ℕ) → k < n → f k �
 unfolding some
 any_same zero f g h = refl
 any_same (suc n) f g h = ap₂ ◌||◌ (h n (le_refl (suc n))) (any_same n f g (λ k l. h k (omega arith)))
+
+-- a test that does not look at the number
+pub and_some : (n : ℕ) (x : Bool) (f : ℕ → Bool) → (x && some n f) ≡ some n (λ k. x && f k)
+unfolding some
+and_some n true f = refl
+and_some zero false f = refl
+and_some (suc n) false f = and_some n false f
+
+-- ---- the bits of a number
+
+word_some : (n : ℕ) (D : ℕ → Bool) → not (eqb (word n D) 0) ≡ some n D
+unfolding word some
+word_some zero D = refl
+word_some (suc n) D = go (D n) (word_some n D)
+  where
+    go : (b : Bool) → not (eqb (word n D) 0) ≡ some n D → not (eqb (cond b (2 ^ n) 0 + word n D) 0) ≡ (b || some n D)
+    go true e = ap not (ne_eqb (2 ^ n + word n D) 0 (λ z. omega (arith, pow_pos n)))
+    go false e = ap (λ (x : ℕ). not (eqb x 0)) (zero-add (word n D)) ∙ e
+
+-- a number has a bit exactly if it is not 0
+pub some_bit : (n x : ℕ) → x < 2 ^ n → not (eqb x 0) ≡ some n (bit x)
+some_bit n x h = ap (λ (y : ℕ). not (eqb y 0)) (sym (word_bits n x h)) ∙ word_some n (bit x)
 
 -- ---- a walk from number to number: what is known so far, and one number more
 

@@ -122,6 +122,10 @@ module _ (v : View) where
     most = canon-most;
   }
 
+  pub canon_range : (A R B : ℕ) → canon_dominoes v A R B ≡ true → Domino v.parts v.roles A R B
+  unfolding InRange
+  canon_range = canon-largest.inside
+
   pub largest-one : (C D : Dominoes) → LargestStable v C → LargestStable v D → (A R B : ℕ) → C A R B ≡ D A R B
   largest-one C D p q A R B =
       iff_eq (C A R B) (D A R B) (q.most C p.inside p.stable A R B) (p.most D q.inside q.stable A R B)

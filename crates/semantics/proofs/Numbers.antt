@@ -21,7 +21,7 @@ module _ (c L A R B : ℕ) (d : Domino c L A R B) where
   pub run_lt : R * 2 ^ c + B < 2 ^ (2 * L + c)
   run_lt = rw (row_is c L) (digits_lt {q = R} {m = 2 ^ (2 * L)} d.roles d.right)
 
-  by_left : number c L A R B ≡ A * 2 ^ (2 * L + c) + (R * 2 ^ c + B)
+  pub by_left : number c L A R B ≡ A * 2 ^ (2 * L + c) + (R * 2 ^ c + B)
   unfolding number
   by_left = add_assoc _ _ _
 

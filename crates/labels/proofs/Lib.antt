@@ -1,0 +1,4 @@
+pub mod Covering
+pub mod Counting
+pub mod Opening
+pub mod Fits
