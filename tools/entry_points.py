@@ -15,8 +15,8 @@ from pathlib import Path
 ROOT = Path(__file__).resolve().parent.parent
 
 PRODUCT = {"tbox", "domino", "interpretation", "capi", "owl_import", "owl_export"}
-LAYER = {"refusals", "bitset", "records", "flattening", "domino_conditions", "domino_initial", "domino_settling", "drawing_entries",
-         "drawing_rows", "drawing_layers", "report", "console", "output", "owl_words"}
+LAYER = {"refusals", "bitset", "records", "flattening", "domino_conditions", "domino_parts", "domino_initial", "domino_settling",
+         "domino_labels", "drawing_entries", "drawing_rows", "drawing_layers", "report", "console", "output", "owl_words"}
 # Public functions without an ensures, and why.
 WITHOUT_ENSURES = {
     "console::complain": "it answers nothing and leaves nothing: what the system takes is not in the kit's contract of write",

@@ -30,12 +30,13 @@ use Rattle.semantics.specs.Views.{filler_in, has_filler, kb_view}
 use Rattle.semantics.proofs.Numbers.{domino_of}
 use Rattle.semantics.proofs.Defects.{defect_cases, defective-is, defective_monotone}
 use Rattle.domino.specs.declared.Verdict.{Verdict}
-use Rattle.domino_settling.specs.declared.judging.Judgement.{Judgement}
+use Rattle.domino_labels.specs.declared.judging.Judgement.{Judgement}
 use Rattle.domino_conditions.specs.Tables.{filler_in_label_lem, kind_has, view}
 use Rattle.domino.specs.Answers.{verdict_of}
 use Rattle.domino.specs.OwnSteps.{StrikesSet}
 use Rattle.domino_initial.specs.Opening.{OpensSet}
-use Rattle.domino_settling.specs.Settling.{SettlesSet, JudgesSet}
+use Rattle.domino_settling.specs.Settling.{SettlesSet}
+use Rattle.domino_labels.specs.Judging.{JudgesSet}
 use Rattle.tbox.proofs.KindNumbers.{loaded_kind}
 use Rattle.domino_conditions.proofs.Rows.{few_sets}
 

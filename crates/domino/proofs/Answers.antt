@@ -19,12 +19,13 @@ use Rattle.domino.specs.declared.Verdict.{Verdict as CodeVerdict}
 use Rattle.refusals.specs.Numbers.{number}
 use Rattle.refusals.specs.declared.Refusal.{Refusal}
 use Rattle.std.specs.Prelude.{Ok, Err}
-use Rattle.domino_settling.specs.declared.judging.Judgement.{Judgement}
+use Rattle.domino_labels.specs.declared.judging.Judgement.{Judgement}
 use Rattle.domino_conditions.specs.Tables.{view}
 use Rattle.domino.specs.Answers.{on_set, says_on_set, leaves_on_set, open_says, open_leaves, Opens, settle_says, settle_leaves, Settles, verdict_numbers, strike_says, strike_leaves, Strikes, judge_says, judge_leaves, Judges}
 use Rattle.domino.specs.OwnSteps.{LoadsFor, StrikesSet}
 use Rattle.domino_initial.specs.Opening.{OpensSet}
-use Rattle.domino_settling.specs.Settling.{SettlesSet, JudgesSet}
+use Rattle.domino_settling.specs.Settling.{SettlesSet}
+use Rattle.domino_labels.specs.Judging.{JudgesSet}
 use Rattle.domino.proofs.OnSet.{on_refused, on_short, says-refusal, leaves-refusal, says-enough, leaves-enough}
 use Rattle.domino.proofs.Agreement.{Agree, base_agrees, opens_agree, strikes_agree, settles_agree, judges_agree}
 

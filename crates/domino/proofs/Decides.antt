@@ -22,8 +22,8 @@ use Rattle.semantics.proofs.Verdict.{sheet-verdict, model_dominoes}
 use Rattle.std.specs.Prelude.{Result, Ok, Err}
 use Rattle.refusals.specs.Numbers.{number as number_of}
 use Rattle.refusals.specs.declared.Refusal.{Refusal}
-use Rattle.domino_settling.specs.declared.judging.Judgement.{Judgement}
-use Rattle.domino_settling.specs.Settling.{met}
+use Rattle.domino_labels.specs.declared.judging.Judgement.{Judgement}
+use Rattle.domino_labels.specs.Judging.{met}
 use Rattle.domino.specs.Answers.{is_set_refusal, on_set, judge_says, judge_leaves, Judges}
 use Rattle.domino.specs.Decides.{RefusedRightly, DecidedRightly, Decides}
 use Rattle.domino.proofs.OnSet.{on_why, on_cases, says-refusal, leaves-refusal}

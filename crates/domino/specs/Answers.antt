@@ -9,8 +9,8 @@ use Rattle.semantics.specs.Views.{kb_view}
 use Rattle.refusals.specs.Numbers.{numbers_of}
 use Rattle.refusals.specs.declared.Refusal.{Refusal}
 use Rattle.domino_conditions.specs.Tables.{condition_number}
-use Rattle.domino_settling.specs.declared.judging.Judgement.{Judgement}
-use Rattle.domino_settling.specs.Settling.{met}
+use Rattle.domino_labels.specs.declared.judging.Judgement.{Judgement}
+use Rattle.domino_labels.specs.Judging.{met}
 use Rattle.domino.specs.declared.Verdict.{Verdict as CodeVerdict}
 use Rattle.domino.specs.declared.Verdict.TheVariants.{Absent as IsAbsent, Struck as IsStruck, Kept as IsKept}
 use Rattle.domino.specs.declared.Outcome.{Outcome}

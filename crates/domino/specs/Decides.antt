@@ -13,8 +13,8 @@ use Rattle.semantics.specs.Views.{kb_view}
 use Rattle.semantics.specs.Projection.{projection}
 use Rattle.refusals.specs.Numbers.{number as number_of}
 use Rattle.refusals.specs.declared.Refusal.{Refusal}
-use Rattle.domino_settling.specs.declared.judging.Judgement.{Judgement}
-use Rattle.domino_settling.specs.Settling.{met}
+use Rattle.domino_labels.specs.declared.judging.Judgement.{Judgement}
+use Rattle.domino_labels.specs.Judging.{met}
 use Rattle.domino.specs.Answers.{is_set_refusal}
 
 -- judge refuses with a number n and a place p

@@ -12,7 +12,7 @@ ghost use Rattle.domino.specs.Answers.{Opens, Strikes, Settles, Judges};
 use domino_conditions::conditions::{Condition, DominoSet};
 use domino_conditions::numbers::{dominoes, words_for};
 use domino_initial::initial::open_set;
-use domino_settling::judging::{Judgement, judge_set};
+use domino_labels::judging::{Judgement, judge_set};
 use domino_settling::settling::settle_set;
 use refusals::{Reason, Refusal};
 use tbox::base::Base;

@@ -1,5 +1,5 @@
 -- What functions tell each other:
 --   Sweeps    what the steps of settling take out
---   Settling  what settling and judging leave and answer
+--   Settling  what settling leaves and answers
 pub mod Sweeps
 pub mod Settling

@@ -1,6 +1,5 @@
-// Settling and judging domino sets in lent words.
+// Settling domino sets in lent words.
 #![tactic(auto)]
 
-pub mod judging;
 mod matching;
 pub mod settling;

@@ -24,11 +24,11 @@ use Rattle.domino_conditions.specs.Tables.{view}
 use Rattle.domino.specs.OwnSteps.{LoadsFor}
 use Rattle.domino.proofs.OnSet.{says-refusal, leaves-refusal, says-enough, leaves-enough}
 use Rattle.domino.proofs.Agreement.{Agree, base_agrees}
+use Rattle.domino_parts.specs.PartWords.{is_of_lem, of_kind}
 use Rattle.drawings.specs.Entries.{entries_of, first_fault, drawing_of}
 use Rattle.drawings.specs.Checking.{Breach, breach_numbers, is_plain, file_fault, drawn_set, breach}
 use Rattle.drawing_entries.specs.Reading.{Reads}
 use Rattle.interpretation.specs.declared.drawing.Finding.{Finding}
-use Rattle.interpretation.specs.PartTables.{is_of_lem, of_kind}
 use Rattle.interpretation.specs.Answers.{finding_is, file_says, file_leaves, check_says, check_leaves, ChecksPlant}
 use Rattle.interpretation.proofs.Agreement.{says_same, leaves_same}
 

@@ -13,6 +13,7 @@ use Rattle.bitset.proofs.Laws.{word_lt, word_ext, word_bits, word_past, bit_word
 use Rattle.elimination.specs.Sets.{every, some}
 use Rattle.elimination.proofs.Quantifiers.{all-at, all_intro, all_same, any_same, not_any}
 use Rattle.semantics.specs.Conditions.{View}
+use Rattle.domino_parts.specs.PartWords.{is_of_lem}
 use Rattle.drawings.proofs.Ranges.{roles_lt}
 use Rattle.drawings.specs.Entries.{entries_of, names_of}
 use Rattle.drawings.specs.Checking.{is_plain, file_fault, names_at, roles_between, has_part, label}
@@ -22,9 +23,9 @@ use Rattle.drawing_rows.specs.Rows.{byte_at}
 use Rattle.flattening.specs.declared.parts.Quantifier.TheVariants.{Exists, Forall}
 use Rattle.std.specs.Prelude.{Some}
 use Rattle.interpretation.specs.declared.tables.Tables.{Tables}
-use Rattle.interpretation.specs.declared.labels.Successors.{Successors}
+use Rattle.interpretation.specs.declared.individual_labels.Successors.{Successors}
 use Rattle.interpretation.specs.declared.drawing.Drawing.{Drawing}
-use Rattle.interpretation.specs.PartTables.{is_of_lem, TablesOf, SuccessorsTo, concluded}
+use Rattle.interpretation.specs.Successors.{TablesOf, SuccessorsTo, concluded}
 use Rattle.interpretation.specs.Drawings.{view_of, drawn, count_of, RowOf}
 use Rattle.interpretation.proofs.RowsOf.{counted}
 
@@ -94,11 +95,11 @@ module _ (d : Drawing) where
       (ltb-true _ _ (and_l (ltb k v.parts) (ltb (v.kind k) 2) p), ltb-true _ _ (and_r_lem (ltb k v.parts) (ltb (v.kind k) 2) p))
 
   module _ (t : Tables) (T : TablesOf v d.names.now t) (x : ℕ) (row : List ℕ) (R : RowOf d x row) where
-    reaches_as : (k y : ℕ) → k < v.parts → y < count_of d → bit (get_or t.holds (byte_at row y) 0) k ≡ v.holds k (roles_between v (drawn d) x y)
+    reaches_as : (k y : ℕ) → k < v.parts → y < count_of d → bit (get_or t.parts.holds (byte_at row y) 0) k ≡ v.holds k (roles_between v (drawn d) x y)
     unfolding roles_between
     reaches_as k y h l =
-        ap (λ (r : ℕ). bit (get_or t.holds r 0) k) (R.bytes y l)
-        ∙ ap (λ (w : ℕ). bit w k) (T.holds (roles_between v (drawn d) x y) (roles_lt v (drawn d) x y))
+        ap (λ (r : ℕ). bit (get_or t.parts.holds r 0) k) (R.bytes y l)
+        ∙ ap (λ (w : ℕ). bit w k) (T.parts.holds (roles_between v (drawn d) x y) (roles_lt v (drawn d) x y))
         ∙ bit_word v.parts _ k h
 
     filled_as : (k y : ℕ) → k < v.parts → y < count_of d → bit (get_or t.fillers y 0) k ≡ v.has k (names_at (drawn d) y)
@@ -125,8 +126,8 @@ module _ (d : Drawing) where
           rw (
             e ∙ read_as x,
             is_false (bit (names_at (drawn d) x) k) (λ p. omega (arith, h, (plain_kind x k l p).0)),
-            T.existentials,
-            T.universals,
+            T.parts.existentials,
+            T.parts.universals,
             bit_past v.parts _ k (word_lt v.parts (λ j. is_of_lem (Some Exists) (v.kind j))) h,
             bit_past v.parts _ k (word_lt v.parts (λ j. is_of_lem (Some Forall) (v.kind j))) h,
           ) (none (bit c.met k) (not (bit c.missed k)))
@@ -142,8 +143,8 @@ module _ (d : Drawing) where
       concluded_as m k e h l =
           by_kind (v.kind k) (bit m k) (bit c.met k) (bit c.missed k) _ _
           (λ p. (plain_kind x k l (ap (λ (z : ℕ). bit z k) (sym (e ∙ read_as x)) ∙ p)).1)
-          (ap (λ (z : ℕ). bit z k) T.existentials ∙ bit_word v.parts _ k h)
-          (ap (λ (z : ℕ). bit z k) T.universals ∙ bit_word v.parts _ k h)
+          (ap (λ (z : ℕ). bit z k) T.parts.existentials ∙ bit_word v.parts _ k h)
+          (ap (λ (z : ℕ). bit z k) T.parts.universals ∙ bit_word v.parts _ k h)
           ∙ rw (met_as k h, missed_as k h, e ∙ read_as x, ← counted d) refl
 
       -- so the word of what is concluded is the label

@@ -18,17 +18,17 @@ use Rattle.semantics.specs.Views.{kb_view}
 use Rattle.semantics.proofs.Rising.{rising_same}
 use Rattle.tbox.specs.declared.base.Base.{Base}
 use Rattle.domino_conditions.specs.Tables.{view}
-use Rattle.domino_settling.specs.declared.judging.Judgement.{Judgement}
-use Rattle.domino_settling.specs.Settling.{JudgesSet}
+use Rattle.domino_labels.specs.declared.judging.Judgement.{Judgement}
+use Rattle.domino_labels.specs.Judging.{JudgesSet}
 use Rattle.domino.specs.OwnSteps.{LoadsFor}
 use Rattle.domino.specs.Answers.{judge_leaves}
 use Rattle.domino.proofs.OnSet.{leaves-refusal, on_refusal, on_enough}
 use Rattle.domino.proofs.WordsEnough.{judge_leaves_lem}
 use Rattle.domino.proofs.Agreement.{Agree, base_agrees, judges_agree}
+use Rattle.domino_parts.specs.PartWords.{of_kind}
 use Rattle.output.specs.Output.{Output, refuse, output_says, output_leaves, Writes}
 use Rattle.drawings.specs.Checking.{is_plain}
 use Rattle.drawing_layers.specs.LayersDrawn.{set_output}
-use Rattle.interpretation.specs.PartTables.{of_kind}
 use Rattle.interpretation.specs.DrawnPlant.{canon_output, draw_output, DrawsPlant}
 use Rattle.interpretation.proofs.Agreement.{plain_same}
 use Rattle.interpretation.proofs.Answers.{plain_is}

@@ -9,9 +9,9 @@ use Rattle.bitset.specs.Bits.{look}
 use Rattle.drawings.specs.Checking.{label, breaks_at}
 use Rattle.drawings.proofs.Ranges.{label_lt}
 use Rattle.domino_conditions.proofs.Rows.{few_labels}
+use Rattle.domino_parts.proofs.Making.{set_next}
 use Rattle.interpretation.specs.declared.drawing.Drawing.{Drawing}
 use Rattle.interpretation.specs.Drawings.{view_of, drawn, Labelled}
-use Rattle.interpretation.proofs.Making.{set_next}
 
 module _ (d : Drawing) (x : ℕ) where
   module _ (labels : List ℕ) (n r : ℕ) (L : Labelled d labels n) (h : x < n) (e : r ≡ get_or labels x 0) where

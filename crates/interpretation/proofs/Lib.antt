@@ -1,5 +1,3 @@
-pub mod PartWords
-pub mod Making
 pub mod Successions
 pub mod Concluding
 pub mod RowsOf

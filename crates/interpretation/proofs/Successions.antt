@@ -12,8 +12,8 @@ use Rattle.bitset.proofs.Laws.{word_lt, word_ext, word_none, bit_past, bit_and_l
 use Rattle.elimination.specs.Sets.{some}
 use Rattle.drawing_rows.specs.Rows.{byte_at}
 use Rattle.interpretation.specs.declared.tables.Tables.{Tables}
-use Rattle.interpretation.specs.declared.labels.Successors.{Successors}
-use Rattle.interpretation.specs.PartTables.{SuccessorsTo, reaches, filled}
+use Rattle.interpretation.specs.declared.individual_labels.Successors.{Successors}
+use Rattle.interpretation.specs.Successors.{SuccessorsTo, reaches, filled}
 
 -- one more
 pub some_next : (n : ℕ) (f : ℕ → Bool) → some (n + 1) f ≡ (some n f || f n)
@@ -71,7 +71,7 @@ module _ (t : Tables) (row : List ℕ) where
 
   module _ (n : ℕ) (c : Successors) (a : SuccessorsTo t row n c) where
     -- the next individual, which is reached by these parts' roles and has these parts' fillers
-    pub successors_next : (r f : ℕ) → r ≡ get_or t.holds (byte_at row n) 0 → f ≡ get_or t.fillers n 0 → r < 2 ^ 16 → f < 2 ^ 16
+    pub successors_next : (r f : ℕ) → r ≡ get_or t.parts.holds (byte_at row n) 0 → f ≡ get_or t.fillers n 0 → r < 2 ^ 16 → f < 2 ^ 16
         → SuccessorsTo t row (n + 1) (record { met = bit_or c.met (bit_and r f); missed = bit_or c.missed (bit_and r (65535 - f)) })
     successors_next r f e g h i = record {
       met = λ k.
@@ -85,7 +85,7 @@ module _ (t : Tables) (row : List ℕ) where
     }
 
     -- individuals to which there is no role, where no part's role holds on none
-    pub successors_skip : (m : ℕ) → n ≤ m → ((y : ℕ) → n ≤ y → y < m → byte_at row y ≡ 0) → get_or t.holds 0 0 ≡ 0 → SuccessorsTo t row m c
+    pub successors_skip : (m : ℕ) → n ≤ m → ((y : ℕ) → n ≤ y → y < m → byte_at row y ≡ 0) → get_or t.parts.holds 0 0 ≡ 0 → SuccessorsTo t row m c
     successors_skip m h e z = record {
       met = λ k. a.met k ∙ sym (some_skip n m _ h (λ y i j. ap (λ (b : Bool). b && filled t k y) (idle k y i j)));
       missed = λ k. a.missed k ∙ sym (some_skip n m _ h (λ y i j. ap (λ (b : Bool). b && not (filled t k y)) (idle k y i j)));
@@ -93,11 +93,11 @@ module _ (t : Tables) (row : List ℕ) where
       where
         idle : (k y : ℕ) → n ≤ y → y < m → reaches t row k y ≡ false
         idle k y i j =
-            ap (λ (x : ℕ). bit (get_or t.holds x 0) k) (e y i j) ∙ ap (λ (x : ℕ). bit x k) z ∙ bit_past 0 0 k (omega arith) (omega arith)
+            ap (λ (x : ℕ). bit (get_or t.parts.holds x 0) k) (e y i j) ∙ ap (λ (x : ℕ). bit x k) z ∙ bit_past 0 0 k (omega arith) (omega arith)
 
   -- the eight individuals of a word, if it has no ones
   pub successors_word : (n m : ℕ) (c : Successors) → SuccessorsTo t row n c → n % 8 ≡ 0 → n ≤ m → m ≤ n + 8 → get_or row (n / 8) 0 ≡ 0
-      → get_or t.holds 0 0 ≡ 0 → SuccessorsTo t row m c
+      → get_or t.parts.holds 0 0 ≡ 0 → SuccessorsTo t row m c
   successors_word n m c a e h i w z =
       successors_skip n c a m h
       (λ y j l.

@@ -3,13 +3,13 @@
 --   Demanded    refusals of both calls, and what is drawn
 --   DrawnPlant  what drawing one answers and leaves
 -- What functions tell each other:
---   PartTables  tables by part, an individual's successors
+--   Successors  the tables of individuals; an individual's successors, and the label that follows
 --   Drawings    rows, labels, dominoes and pairs of a drawn interpretation
 -- What statements about these definitions use:
 --   Examples    the worked drawings of plants
 pub mod Answers
 pub mod Demanded
 pub mod DrawnPlant
-pub mod PartTables
+pub mod Successors
 pub mod Drawings
 pub mod Examples

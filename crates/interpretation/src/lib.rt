@@ -8,13 +8,13 @@ ghost use Rattle.interpretation.specs.DrawnPlant.{DrawsPlant};
 
 pub mod dominoes;
 pub mod drawing;
-pub mod labels;
+pub mod individual_labels;
 pub mod tables;
 
 use crate::drawing::{Drawing, Finding};
-use crate::tables::parts_of;
 use domino::load_for;
-use domino_settling::judging::judge_set;
+use domino_labels::judging::judge_set;
+use domino_parts::words::parts_of;
 use drawing_entries::{MOST_INDIVIDUALS, read_individuals};
 use drawing_layers::draw_set;
 use refusals::Refusal;

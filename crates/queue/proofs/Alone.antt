@@ -12,7 +12,7 @@ use Rattle.syntax.specs.Reading.{read_kb}
 use Rattle.syntax.specs.Answers.{limit}
 use Rattle.std.specs.Prelude.{Result}
 use Rattle.refusals.specs.declared.Refusal.{Refusal}
-use Rattle.domino_settling.specs.declared.judging.Judgement.{Judgement}
+use Rattle.domino_labels.specs.declared.judging.Judgement.{Judgement}
 use Rattle.domino.specs.Answers.{judge_numbers, judge_says}
 use Rattle.domino.proofs.Judged.{judge_by-length, Forms, judge_forms}
 use Rattle.report.proofs.Worked.{set4096, many}

@@ -14,8 +14,8 @@ use Rattle.std.specs.Prelude.{Result, Ok, Err}
 use lib.Dec.{eqb}
 use Rattle.refusals.specs.Numbers.{number}
 use Rattle.refusals.specs.declared.Refusal.{Refusal}
-use Rattle.domino_settling.specs.declared.judging.Judgement.{Judgement}
-use Rattle.domino_settling.specs.Settling.{met}
+use Rattle.domino_labels.specs.declared.judging.Judgement.{Judgement}
+use Rattle.domino_labels.specs.Judging.{met}
 use Rattle.domino.specs.Answers.{judge_numbers, Judges}
 use Rattle.queue.specs.declared.slots.SlotAnswer.{SlotAnswer}
 use Rattle.queue.specs.declared.slots.SlotAnswer.TheVariants.{Met, Unmet, Refused}

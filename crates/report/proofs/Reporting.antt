@@ -10,14 +10,14 @@ use lib.Dec.{eqb}
 use Rattle.refusals.specs.Numbers.{number}
 use Rattle.refusals.specs.declared.Refusal.{Refusal}
 use Rattle.tbox.specs.declared.Counts.{Counts}
-use Rattle.domino_settling.specs.declared.judging.Judgement.{Judgement}
+use Rattle.domino_labels.specs.declared.judging.Judgement.{Judgement}
 use lib.ListN.{replicate}
 use Rattle.syntax.specs.Reading.{Reading, refusal, kb, parts_of, read_kb}
 use Rattle.tbox.specs.Answers.{read_numbers, part_counts}
 use Rattle.syntax.specs.Counts.{PartCounts, counts_of}
 use Rattle.syntax.proofs.Counting.{same_counts, counts_sum}
 use Rattle.syntax.specs.Answers.{limit, counts_say, read_says}
-use Rattle.domino_settling.specs.Settling.{met}
+use Rattle.domino_labels.specs.Judging.{met}
 use Rattle.domino.specs.Answers.{judge_numbers, judge_says, Judges}
 use Rattle.domino.proofs.SpeltOut.{judge_says-read, judge_leaves-refusal}
 use Rattle.domino.proofs.Decides.{unequal}

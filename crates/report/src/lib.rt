@@ -13,7 +13,7 @@ ghost use Rattle.domino.specs.Answers.{judge_numbers};
 ghost use Rattle.report.specs.Lines.{refused_line, counts_line, sizes_line, verdict_line, judged_lines, Reports};
 
 use arrayvec::ArrayVec;
-use domino_settling::judging::Judgement;
+use domino_labels::judging::Judgement;
 use itoa::Buffer;
 use refusals::Refusal;
 use tbox::Counts;

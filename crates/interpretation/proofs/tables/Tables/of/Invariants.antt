@@ -1,11 +1,7 @@
--- The parts of each quantifier; the role sets before r, and then all of them and the individuals before y.
-use Rattle.std.proofs.Common.{◌^◌, ◌*◌}
-use Rattle.interpretation.specs.PartTables.{TablesUpTo}
-use Rattle.interpretation.proofs.tables.Tables.of.Given as goal
+-- The tables by role set, and the individuals before y.
 use Rattle.domino_conditions.specs.Tables.{view}
-
-abbrev pub invariant-loop-r : goal.invariant-loop-r
-invariant-loop-r l = TablesUpTo (view l.base) l.names l.tables l.r 0
+use Rattle.interpretation.specs.Successors.{TablesTo}
+use Rattle.interpretation.proofs.tables.Tables.of.Given as goal
 
 abbrev pub invariant-loop-y : goal.invariant-loop-y
-invariant-loop-y l = TablesUpTo (view l.base) l.names l.tables (2 ^ (2 * l.base.size.roles)) l.y
+invariant-loop-y l = TablesTo (view l.base) l.names l.tables l.y

@@ -1,0 +1,9 @@
+pub mod OpeningSums
+pub mod Judged
+pub mod Serving
+pub mod PutRuns
+pub mod AskingMasks
+pub mod BothWays
+pub mod FittingMasks
+pub mod RowBits
+pub mod ThinnedLaws

@@ -1,0 +1,3 @@
+pub mod WordsByPart
+pub mod Making
+pub mod Fillers
