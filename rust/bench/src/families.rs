@@ -1,4 +1,4 @@
-//! Sheets of any number of parts and roles, of five families.
+//! Sheets of any number of parts and roles, of six families.
 
 use crate::sheets::{Sheet, AXIOM, BOTTOM, EXISTS, FORALL, INCLUSION, INVERSE, NAME, ROLE, TOP};
 
@@ -9,6 +9,8 @@ pub enum Family {
     Met,
     /// The same with role inclusions.
     MetWithInclusions,
+    /// The same with existential restrictions alone, so that more stays.
+    MetByExistentials,
     /// It is empty.
     EmptyAtOnce,
     /// One sweep empties it.
@@ -18,6 +20,7 @@ pub enum Family {
 }
 
 impl Family {
+    /// Those of which every call is timed.
     pub const ALL: [Family; 5] = [
         Family::Met,
         Family::MetWithInclusions,
@@ -26,11 +29,22 @@ impl Family {
         Family::EmptyInSweeps,
     ];
 
+    /// Those of which judging is timed, each with the numbers of roles.
+    pub const JUDGED: [(Family, &[u8]); 6] = [
+        (Family::Met, &[1, 2, 3, 4]),
+        (Family::MetByExistentials, &[1, 2, 3, 4]),
+        (Family::MetWithInclusions, &[1, 2, 4]),
+        (Family::EmptyAtOnce, &[1, 2, 4]),
+        (Family::EmptyInOneSweep, &[1, 2, 4]),
+        (Family::EmptyInSweeps, &[1, 2, 3, 4]),
+    ];
+
     #[must_use]
     pub fn name(self) -> &'static str {
         match self {
             Family::Met => "met",
             Family::MetWithInclusions => "met, inclusions",
+            Family::MetByExistentials => "met, existentials",
             Family::EmptyAtOnce => "unmet, none initial",
             Family::EmptyInOneSweep => "unmet in one sweep",
             Family::EmptyInSweeps => "unmet in sweeps",
@@ -43,17 +57,18 @@ impl Family {
     pub fn sheet(self, parts: u8, roles: u8) -> Sheet {
         let mut base = Base::new(roles);
         match self {
-            Family::Met => base.restrictions(parts),
+            Family::Met => base.restrictions(parts, &BY_TURNS),
             Family::MetWithInclusions => {
-                base.restrictions(parts);
+                base.restrictions(parts, &BY_TURNS);
                 base.inclusions();
             }
+            Family::MetByExistentials => base.restrictions(parts, &[EXISTS]),
             Family::EmptyAtOnce => {
-                base.restrictions(parts);
+                base.restrictions(parts, &BY_TURNS);
                 base.axiom(base.top, base.bottom);
             }
             Family::EmptyInOneSweep => {
-                base.restrictions(parts - 1);
+                base.restrictions(parts - 1, &BY_TURNS);
                 let exists = base.sheet.push([EXISTS, base.roles[0], base.bottom]);
                 base.axiom(base.top, exists);
             }
@@ -62,6 +77,9 @@ impl Family {
         base.sheet
     }
 }
+
+/// The kinds of restrictions, by turns.
+const BY_TURNS: [u8; 2] = [EXISTS, FORALL];
 
 struct Base {
     sheet: Sheet,
@@ -99,20 +117,20 @@ impl Base {
             .collect()
     }
 
-    /// Name i is below a restriction of name i + 1, around in a circle;
-    /// existential and universal by turns. As many restrictions as names, or
+    /// Name i is below a restriction of name i + 1, around in a circle; the kinds
+    /// by turns, the universal ones by inverses. As many restrictions as names, or
     /// one less.
-    fn restrictions(&mut self, parts: u8) {
+    fn restrictions(&mut self, parts: u8, kinds: &[u8]) {
         let names = self.names(parts.div_ceil(2));
         for turn in 0..usize::from(parts / 2) {
             let filler = names[(turn + 1) % names.len()];
-            let restriction = if turn % 2 == 0 {
-                let role = self.roles[turn % self.roles.len()];
-                self.sheet.push([EXISTS, role, filler])
-            } else {
-                let role = self.inverses[turn % self.roles.len()];
-                self.sheet.push([FORALL, role, filler])
+            let kind = kinds[turn % kinds.len()];
+            let roles = match kind {
+                FORALL => &self.inverses,
+                _ => &self.roles,
             };
+            let restriction = [kind, roles[turn % roles.len()], filler];
+            let restriction = self.sheet.push(restriction);
             self.axiom(names[turn], restriction);
         }
     }

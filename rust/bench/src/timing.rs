@@ -7,12 +7,20 @@ use std::time::{Duration, Instant};
 pub fn medians<const N: usize>(
     batches: usize,
     calls: u32,
-    mut runs: [&mut dyn FnMut(); N],
+    runs: [&mut dyn FnMut(); N],
+) -> [f64; N] {
+    medians_of(batches, runs.map(|run| (calls, run)))
+}
+
+/// The same, with numbers of calls of their own.
+pub fn medians_of<const N: usize>(
+    batches: usize,
+    mut runs: [(u32, &mut dyn FnMut()); N],
 ) -> [f64; N] {
     let mut times = [(); N].map(|()| Vec::with_capacity(batches));
     for _ in 0..batches {
-        for (times, run) in times.iter_mut().zip(&mut runs) {
-            times.push(time_batch(calls, *run));
+        for (times, (calls, run)) in times.iter_mut().zip(&mut runs) {
+            times.push(time_batch(*calls, *run));
         }
     }
     times.map(median)

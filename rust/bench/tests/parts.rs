@@ -14,7 +14,7 @@ fn marks(counts: Result<Counts, Refusal>) -> Result<u64, u64> {
 /// No claim is made twice.
 #[test]
 fn families() {
-    for family in Family::ALL {
+    for (family, _) in Family::JUDGED {
         for roles in 1..=4 {
             for parts in 1..=12 - roles {
                 let sheet = family.sheet(parts, roles);

@@ -23,6 +23,11 @@ impl Lent {
         &mut self.words[MARGIN..end]
     }
 
+    /// Whether the words are these now, and both margins as they were.
+    pub fn is(&self, content: &[u64]) -> bool {
+        self.words == Lent::new(content).words
+    }
+
     /// The words as they are now, if both margins are as they were.
     pub fn back(mut self) -> Option<Vec<u64>> {
         let content = self.lend().to_vec();

@@ -9,6 +9,7 @@ pub mod dominoes;
 pub mod drawn;
 pub mod few_axioms;
 pub mod inclusions;
+pub mod labels;
 pub mod made_up;
 pub mod misreference;
 pub mod owl;
@@ -26,6 +27,7 @@ pub mod worked;
 
 mod hex;
 mod lent;
+mod slips;
 
 use reference::{Counts, Judgement, PlantCheck, Refusal, Strike};
 

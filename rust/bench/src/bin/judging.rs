@@ -1,8 +1,9 @@
-//! Times judging and striking by the product and by the plain engine.
+//! Times judging by the product and by the plain engines, by sweeps over dominoes and
+//! by labels; and striking by the product and by the plain engine.
 
 use bench::families::Family;
 use bench::plain;
-use bench::timing::{calls_in, medians};
+use bench::timing::{calls_in, medians, medians_of};
 use std::hint::black_box;
 use std::time::Duration;
 
@@ -17,11 +18,21 @@ fn main() {
 
 fn judging() {
     println!(
-        "{:<20} {:>2} {:>2} {:>5} {:>9} {:>9} {:>11} {:>11} {:>6}",
-        "judge", "c", "L", "c + L", "opening", "survivors", "product us", "plain us", "ratio"
+        "{:<20} {:>2} {:>2} {:>5} {:>9} {:>9} {:>11} {:>11} {:>11} {:>8} {:>8}",
+        "judge",
+        "c",
+        "L",
+        "c + L",
+        "opening",
+        "survivors",
+        "product us",
+        "sweeps us",
+        "labels us",
+        "/ sweeps",
+        "/ labels"
     );
-    for family in Family::ALL {
-        for roles in [1, 2, 4] {
+    for (family, roles) in Family::JUDGED {
+        for &roles in roles {
             for size in (roles + 1).max(3)..=12 {
                 judge(family, size - roles, roles);
             }
@@ -34,33 +45,42 @@ fn judge(family: Family, parts: u8, roles: u8) {
     let sheet = sheet.bytes();
     let size = u32::from(parts + roles);
     let mut by_product = vec![0; 4_usize.pow(size).div_ceil(64)];
-    let mut by_plain = by_product.clone();
+    let mut by_sweeps = by_product.clone();
+    let mut by_labels = by_product.clone();
 
     let judged = lodhrussi::judge(sheet, &mut by_product).expect("the product judges the sheet");
-    let expected = plain::judge(sheet, &mut by_plain).expect("the plain engine judges the sheet");
+    let expected = plain::judge(sheet, &mut by_sweeps).expect("the plain engine judges the sheet");
     let numbers = (judged.opening, judged.survivors, judged.met);
     assert_eq!(
         numbers,
         (expected.opening, expected.survivors, expected.met)
     );
-    assert_eq!(by_product, by_plain);
+    assert_eq!(by_product, by_sweeps);
+    assert_eq!(plain::judge_by_labels(sheet, &mut by_labels), Ok(expected));
+    assert_eq!(by_labels, by_sweeps);
 
     let mut product = || {
         let _ = black_box(lodhrussi::judge(black_box(sheet), &mut by_product));
     };
-    let mut plain = || {
-        let _ = black_box(plain::judge(black_box(sheet), &mut by_plain));
+    let mut sweeps = || {
+        let _ = black_box(plain::judge(black_box(sheet), &mut by_sweeps));
     };
-    let calls = calls_in(BATCH, &mut plain);
-    let [product, plain] = medians(BATCHES, calls, [&mut product, &mut plain]);
+    let mut labels = || {
+        let _ = black_box(plain::judge_by_labels(black_box(sheet), &mut by_labels));
+    };
+    let runs: [&mut dyn FnMut(); 3] = [&mut product, &mut sweeps, &mut labels];
+    let runs = runs.map(|run| (calls_in(BATCH, run), run));
+    let [product, sweeps, labels] = medians_of(BATCHES, runs);
     println!(
-        "{:<20} {parts:>2} {roles:>2} {size:>5} {:>9} {:>9} {:>11.1} {:>11.1} {:>6.2}",
+        "{:<20} {parts:>2} {roles:>2} {size:>5} {:>9} {:>9} {:>11.1} {:>11.1} {:>11.1} {:>8.2} {:>8.2}",
         family.name(),
         judged.opening,
         judged.survivors,
         product / 1e3,
-        plain / 1e3,
-        product / plain
+        sweeps / 1e3,
+        labels / 1e3,
+        product / sweeps,
+        product / labels
     );
 }
 

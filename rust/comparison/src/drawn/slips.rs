@@ -1,19 +1,6 @@
 //! What programs do wrong that draw plants, and that the suites are to catch.
 
-/// A type of slips, and all of them.
-macro_rules! slips {
-    ($($(#[$what:meta])* $slip:ident,)*) => {
-        /// What a program does wrong.
-        #[derive(Clone, Copy, Debug, PartialEq, Eq)]
-        pub enum Slip {
-            $($(#[$what])* $slip,)*
-        }
-
-        impl Slip {
-            pub const ALL: &[Slip] = &[$(Slip::$slip,)*];
-        }
-    };
-}
+use crate::slips::slips;
 
 slips! {
     // in the layers and what joins them
