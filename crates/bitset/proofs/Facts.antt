@@ -1,5 +1,5 @@
 -- Laws of Bool. That a test passes is said as `T b` or as `b ≡ true`: the laws of both, and the bridge between them.
-use mathlib.Core.Path.{◌≡◌, refl, sym, ap, ap₂, subst}
+use mathlib.Core.Path.{◌≡◌, refl, sym, ap, ap₂, subst, ◌∙◌}
 use mathlib.Core.Logic.{◌⊎◌, inl, inr}
 use mathlib.Core.Bool.{Bool, true, false, not, ◌&&◌, ◌||◌, false≢true, and-false}
 use Prim.Native.Nat.{ℕ, suc, ◌<◌}
@@ -132,6 +132,13 @@ and_out false c e = refl
 pub and_in : (b c : Bool) → c ≡ true → (b && c) ≡ b
 and_in true c e = e
 and_in false c e = refl
+
+-- the answer `g` of a walk that tests x, then y
+pub and_went : (x y g : Bool) → x ≡ true → g ≡ y → g ≡ (x && y)
+and_went x y g e h = h ∙ ap (λ (z : Bool). z && y) (sym e)
+
+pub and_stopped : (x y g : Bool) → g ≡ x → g ≡ false → g ≡ (x && y)
+and_stopped x y g e h = h ∙ ap (λ (z : Bool). z && y) (sym h ∙ e)
 
 -- ---- numbers
 

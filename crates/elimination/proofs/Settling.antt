@@ -17,6 +17,9 @@ module _ (N : ℕ) where
   pub sub_refl : (D : Set) → Sub N D D
   sub_refl D p h t = t
 
+  pub sub_trans : (D E F : Set) → Sub N D E → Sub N E F → Sub N D F
+  sub_trans D E F s u p h t = u p h (s p h t)
+
   pub same_by : (D E : Set) → Sub N D E → Sub N E D → Same N D E
   same_by D E s u p h = T_same (D p) (E p) (s p h) (u p h)
 

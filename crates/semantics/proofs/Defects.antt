@@ -233,6 +233,12 @@ module _ (v : View) where
         and_i (delex_mono (and_l (delex v D A) (deluni v D A && sym v D A R B) e))
         (and_i (deluni_mono (and_l (deluni v D A) (sym v D A R B) r)) (f (and_r_lem (deluni v D A) (sym v D A R B) r)))
 
+  -- what a set sustains, a larger one does
+  pub sustained_mono : (D E : Dominoes) → ((A R B : ℕ) → D A R B ≡ true → E A R B ≡ true)
+      → (A R B : ℕ) → sustained v D A R B ≡ true → sustained v E A R B ≡ true
+  unfolding sym
+  sustained_mono D E part A R B = larger D E A (λ R B r b. part A R B) R B (part B (inverse v.roles R) A)
+
   -- larger among the dominoes is enough
   pub sustained-within : (D E : Dominoes) → ((A R B : ℕ) → Domino v.parts v.roles A R B → D A R B ≡ true → E A R B ≡ true)
       → (A R B : ℕ) → A < 2 ^ v.parts → B < 2 ^ v.parts → sustained v D A R B ≡ true → sustained v E A R B ≡ true

@@ -3,16 +3,18 @@
 -- dominoes are exactly the set (02, N11).
 use Prim.Native.Nat.{ℕ, zero, suc, ◌+◌, ◌*◌, ◌/◌, ◌%◌, ◌^◌, ◌≤◌, ◌<◌}
 use native.Mathlib.Omega.{arith}
-use native.Mathlib.Nat.{mod-lt, mod-eq_of_lt}
+use native.Mathlib.Nat.{mod-lt, mod-eq_of_lt, div-eq_of_lt}
 use mathlib.Core.Path.{◌≡◌, refl, sym, ap, ◌∙◌, subst}
 use mathlib.Core.Logic.{◌↔◌, ◌⊎◌, inl, inr}
 use mathlib.Core.Bool.{Bool, true, false}
 use mathlib.Core.List.{List}
 use lib.ListN.{length, get_or}
 use lib.Pow.{pow_pos}
+use lib.Dec.{eqb}
+use borrow.Author.Tests.{eqb-true}
 use Rattle.bitset.specs.Bits.{bit, word}
 use Rattle.bitset.proofs.Laws.{word_ext, word_bits, bit_past}
-use Rattle.bitset.proofs.Facts.{iff_eq, and_l, and_r_lem, and_i}
+use Rattle.bitset.proofs.Facts.{iff_eq, is_false, and_l, and_r_lem, and_i}
 use Rattle.syntax.specs.Concepts.{RoleInclusion}
 use Rattle.syntax.specs.Flatten.{Part, Flat, separate, Flattening, flatten_by, part_at}
 use Rattle.syntax.specs.Truth.{role_on}
@@ -26,13 +28,13 @@ use Rattle.semantics.specs.Views.{view_of, kb_view, separate_view}
 use Rattle.semantics.specs.Projection.{parts_in, role_bit, role_set, projection_of, projection}
 use Rattle.semantics.specs.Flattens.{Flattens}
 use Rattle.semantics.specs.Labelling.{Labelling}
-use Rattle.semantics.specs.Layers.{label_at, roles_at, layered, Enumerates, rising}
+use Rattle.semantics.specs.Layers.{label_at, leads, roles_at, layered, Enumerates, rising}
 use Rattle.semantics.proofs.Flattening.{flatten_flattens, separate_faithful, judged_flattens}
 use Rattle.semantics.proofs.Meaning.{tbox_labelling, labelling_tbox, parts_out}
 use Rattle.semantics.proofs.Canonical.{canon-largest}
 use Rattle.semantics.proofs.Projecting.{role_even, role-odd, domino_in, projection_range, projection-stable}
 use Rattle.semantics.proofs.Stability.{stable-sym}
-use Rattle.semantics.proofs.Layering.{Layout, layout_labelling, layout_rbox, layers_layout, next-at, roles_on}
+use Rattle.semantics.proofs.Layering.{Layout, layout_labelling, layout_rbox, layers_layout, next-at, roles_on, roles-none}
 use Rattle.semantics.proofs.Rising.{rising_enumerates}
 
 -- of a knowledge base: the roles of its axioms are below the count and each false on no roles, and so are those of its role
@@ -179,6 +181,27 @@ module _ (k : Kb) (B : Bounded k) (ps : List Part) (fs : List Flat) (F : Flatten
         (labelling_in (layered L m a r b) (λ x k. bit (label_at m b x) k) (layered_labelling C s i m a r b E pos)
         (label_out C s i m a r b E pos) (layered_rbox C s i m a r b E pos) A R B)
         (layered-has C s i m a r b E pos A R B)
+
+    module _ (m : ℕ) (a r b : ℕ → ℕ) (E : Enumerates C m a r b) (pos : 0 < m) where
+      -- two individuals of one layer are joined by no role
+      no_lead : (x y : ℕ) → x < m → y < m → leads m a b x y ≡ false
+      unfolding leads
+      no_lead x y lx ly = is_false (leads m a b x y) (λ e.
+          let p = and_l (eqb ((x / m + 1) % 3) (y / m)) (eqb (b (x % m)) (a (y % m))) e in
+          apart (x / m) (y / m) (div-eq_of_lt lx) (div-eq_of_lt ly) (eqb-true _ _ p))
+        where
+          apart : (g h : ℕ) → g ≡ 0 → h ≡ 0 → (g + 1) % 3 ≡ h → ⊥
+          apart g h p q e = omega arith
+
+      -- so two right labels that occur are a domino with no role
+      pub no_roles_in : (A R B A' R' B' : ℕ) → C A R B ≡ true → C A' R' B' ≡ true → C B 0 B' ≡ true
+      unfolding label_at
+      no_roles_in A R B A' R' B' d e =
+          let w = E.all A R B d in let v = E.all A' R' B' e in
+          let x : ℕ = w.0 in let y : ℕ = v.0 in
+          sym (layered-projection m a r b E pos B 0 B')
+          ∙ pair_in C best.stable best.inside m a r b E pos x y (omega (arith, w.1)) (omega (arith, v.1)) B 0 B' (ap b (mod-eq_of_lt w.1) ∙ w.4)
+          (roles-none L m a r b x y (no_lead x y w.1 v.1) (no_lead y x v.1 w.1)) (ap b (mod-eq_of_lt v.1) ∙ v.4)
 
     -- its numbers rising
     risen : List ℕ

@@ -3,7 +3,7 @@ use Prim.Native.Nat.{ℕ, zero, suc, ◌+◌, ◌≤◌, ◌<◌}
 use mathlib.Core.Path.{◌≡◌, refl, sym, ap, ◌∙◌}
 use mathlib.Core.List.{List, [], ◌∷◌, ◌++◌, append_assoc, append-nil}
 use lib.ListN.{length, get_or, take, length-append, length-take, get_or-eq_default}
-use lib.Seq.{get_or-take, take_at, get_or_at, length-take-le}
+use lib.Seq.{get_or-take, take_at, get_or_at, length-take-le, take_all}
 use native.Mathlib.Omega.{arith}
 use native.Mathlib.Nat.{add-zero, zero-add}
 use native.Mathlib.Decide.{dec_lt}
@@ -107,6 +107,10 @@ concept_low es m n r h k = ap as_concept (get_or-take m (nodes_of es) r no_node 
 pub role-low : (es : List Entry) (m n r : ℕ) → r < m → r < n → role_below es m r ≡ role_below es n r
 unfolding role_below
 role-low es m n r h k = ap as_role (get_or-take m (nodes_of es) r no_node h ∙ sym (get_or-take n (nodes_of es) r no_node k))
+
+pub concept_all : (es : List Entry) (n r : ℕ) → length es ≤ n → concept_below es (length es) r ≡ concept_below es n r
+unfolding concept_below
+concept_all es n r h = rw (take_all n (nodes_of es) (omega (arith, nodes_length es)), take_all (length es) (nodes_of es) (omega (arith, nodes_length es)))
 
 -- a kind that is none of the table's stands for no tree
 pub node_unknown : (k : ℕ) → (shape_of k).sort ≡ 0 → (ns : List Node) (n a b : ℕ) → node_of ns n k a b ≡ no_node

@@ -1,7 +1,8 @@
 -- The places of restrictions: at which part each record that is a restriction stands, and the table of places as it is filled.
 use Rattle.std.proofs.Common.{ℕ, ◌+◌, ◌≤◌, ◌<◌, ◌≡◌, refl, sym, ap, subst₂, Bool, true, false, List, [], ◌∷◌, ◌++◌, length, get_or, Option, Some, zero, suc, arith, add-zero}
-use native.Mathlib.Decide.{dec_lt}
-use lib.ListN.{get_or-eq_default}
+use native.Mathlib.Decide.{dec_lt, ℕ_discrete}
+use lib.ListN.{set, get_or-eq_default}
+use lib.Seq.{get_or-set_same, get_or-set_other}
 use Rattle.std.proofs.Math.ListN.{get_or-append}
 use Rattle.records.specs.Entries.{Entry}
 use Rattle.records.specs.Scan.{record_at_lem, blank}
@@ -87,6 +88,26 @@ module _ (T t u : Tree) (a b : ℕ) (n : Node) (os : List Origin) (p : Pair) whe
 
 -- the loop: the places of the first n records are noted
 module _ {es : List Entry} {ps : List Part} where
+  pub noted_none : {l : List Pair} → Noted es ps l 0
+  noted_none = record { each = λ r h. absurd (omega arith) }
+
+  -- a record that is no restriction
+  pub noted_other : {l : List Pair} {n : ℕ} → (7 ≤ (record_at_lem es n).kind → 9 ≤ (record_at_lem es n).kind) → Noted es ps l n →
+      Noted es ps l (n + 1)
+  noted_other {l} {n} o f = record { each = λ r h. at r h (ℕ_discrete r n) }
+    where
+      at : (r : ℕ) → r < n + 1 → Dec (r ≡ n) → PlaceAt es ps r (pair_at l r)
+      at r h (yes q) = rw q (place_other es ps n (pair_at l n) o)
+      at r h (no q) = f.each r (omega (arith, q))
+
+  -- its pair written
+  pub noted_more : {l : List Pair} {n : ℕ} (p : Pair) → n < length l → PlaceAt es ps n p → Noted es ps l n → Noted es ps (set l n p) (n + 1)
+  noted_more {l} {n} p k at-n f = record { each = λ r h. at r h (ℕ_discrete r n) }
+    where
+      at : (r : ℕ) → r < n + 1 → Dec (r ≡ n) → PlaceAt es ps r (pair_at (set l n p) r)
+      at r h (yes q) = rw (q, get_or-set_same l n p no_pair k) at-n
+      at r h (no q) = rw (get_or-set_other l n r p no_pair q) (f.each r (omega (arith, q)))
+
   -- all of them, and a rest past the records
   pub places-all : {l : List Pair} {n : ℕ} (rest : List Pair) → length es ≤ length l → length l ≤ n → length ps ≤ 20 → Noted es ps l n →
       PlacesOf es ps (record { pairs = l ++ rest })
