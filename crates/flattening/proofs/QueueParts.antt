@@ -21,7 +21,7 @@ use Rattle.syntax.specs.Normal.{Nf, or_n, plain, negated, axiom_nf}
 use Rattle.syntax.specs.Flatten.{Part, Flat, Pending, whole, guarded, walk_by, walk_pending_by, shared, name_parts_lem, pendings, flatten, part_at}
 use Rattle.flattening.specs.Trees.{nf_below}
 use Rattle.flattening.specs.Order.{through, turn_of, turns_from, axiom_turn}
-use Rattle.flattening.specs.Origins.{part_of, parts_from, parts_in, parts_made, room}
+use Rattle.flattening.specs.Origins.{part_of, parts_from, parts_in, parts_made}
 use Rattle.flattening.specs.Adding.{Outcome, AddsParts, AddsAxiom, AddsAxioms, AddsTurn, Flattens}
 use Rattle.flattening.specs.declared.parts.Source.{Source}
 use Rattle.flattening.specs.declared.parts.Origin.{Origin}
@@ -105,17 +105,17 @@ module _ (es : List Entry) (i : ℕ) (os : List Origin) where
           ∙ through-whole (or_n (negated (concept_below es i (record_at_lem es i).first)) (plain (concept_below es i (record_at_lem es i).second))) so
           ∙ rw (h.1.first, h.1.second, e) refl
 
-      pub axiom_adds : (mid after : List Origin) (z : Outcome) →
-          parts_in es mid ≡ parts_in es os ++ parts_by (nf_below true es i a) (parts_in es os) → AddsParts es (nf_below false es i b) mid after z →
-          AddsAxiom es i os after z
-      axiom_adds mid after z d w =
-          adds_as es (both (parts_by (nf_below true es i a)) (parts_by (nf_below false es i b))) os after axiom_of_lem z
-          (through_axiom (parts_in es os)) (adds_then es (parts_by (nf_below true es i a)) (parts_by (nf_below false es i b)) os mid after z d w)
+      pub axiom_adds : (room : ℕ) (mid after : List Origin) (z : Outcome) →
+          parts_in es mid ≡ parts_in es os ++ parts_by (nf_below true es i a) (parts_in es os) → AddsParts room es (nf_below false es i b) mid after z →
+          AddsAxiom room es i os after z
+      axiom_adds room mid after z d w =
+          adds_as es (both (parts_by (nf_below true es i a)) (parts_by (nf_below false es i b))) os after room axiom_of_lem z
+          (through_axiom (parts_in es os)) (adds_then es (parts_by (nf_below true es i a)) (parts_by (nf_below false es i b)) os room mid after z d w)
 
-      pub axiom_over : (after : List Origin) (z : Outcome) → IsErr z →
-          room < length (parts_in es os ++ parts_by (nf_below true es i a) (parts_in es os)) → AddsAxiom es i os after z
-      axiom_over after z d w =
-          adds_as es (both (parts_by (nf_below true es i a)) (parts_by (nf_below false es i b))) os after axiom_of_lem z
+      pub axiom_over : {room : ℕ} (after : List Origin) (z : Outcome) → IsErr z →
+          room < length (parts_in es os ++ parts_by (nf_below true es i a) (parts_in es os)) → AddsAxiom room es i os after z
+      axiom_over {room} after z d w =
+          adds_as es (both (parts_by (nf_below true es i a)) (parts_by (nf_below false es i b))) os after room axiom_of_lem z
           (through_axiom (parts_in es os)) (adds_cut es (parts_by (nf_below true es i a)) (parts_by (nf_below false es i b)) os after z d w)
 
 -- ---- a part's turn
@@ -140,10 +140,10 @@ module _ (es : List Entry) (os : List Origin) where
       rw e (adds_nothing es (through (turn_of k (part_of es k o))) os (ap (λ (q : List Pending). through q (parts_in es os)) (turn_quiet es k o n)))
 
   -- its filler, read plainly or under a not
-  pub turn_adds : (o : Origin) (s : Source) → o ≡ Fresh s → (odd : Bool) → s.odd ≡ odd → (after : List Origin) (z : Outcome) →
-      AddsParts es (nf_below odd es (length es) s.filler) os after z → AddsTurn es o os after z
-  turn_adds o s e odd d after z w k =
-      adds_as es (parts_by (nf_below odd es (length es) s.filler)) os after (through (turn_of k (part_of es k o))) z
+  pub turn_adds : (room : ℕ) (o : Origin) (s : Source) → o ≡ Fresh s → (odd : Bool) → s.odd ≡ odd → (after : List Origin) (z : Outcome) →
+      AddsParts room es (nf_below odd es (length es) s.filler) os after z → AddsTurn room es o os after z
+  turn_adds room o s e odd d after z w k =
+      adds_as es (parts_by (nf_below odd es (length es) s.filler)) os after room (through (turn_of k (part_of es k o))) z
       (rw (e, turn_fresh es k s, d) (through-guarded k (nf_below odd es (length es) s.filler) (parts_in es os))) w
 
 -- ---- all axioms
@@ -166,8 +166,8 @@ module _ (es : List Entry) (os : List Origin) where
         parts_in es after ≡ parts_in es os ++ axioms_to es (i + 1) (parts_in es os)
     axioms_more after d = d ∙ next_axiom
 
-    pub axioms_over : (after : List Origin) (z : Outcome) → IsErr z →
-        room < length (parts_in es mid ++ through (axiom_turn (nodes_of es) i) (parts_in es mid)) → AddsAxioms es os after z
+    pub axioms_over : {room : ℕ} (after : List Origin) (z : Outcome) → IsErr z →
+        room < length (parts_in es mid ++ through (axiom_turn (nodes_of es) i) (parts_in es mid)) → AddsAxioms room es os after z
     axioms_over after z d w =
         adds_over es (through (pendings (axioms_of (nodes_of es)))) os after z d
         (rw (split, through-append) (longer (parts_in es os) (axioms_to es (i + 1) (parts_in es os)) _ (rw next_axiom at w)))
@@ -199,7 +199,7 @@ abbrev pub Turning : List Entry → ℕ → List Origin → ℕ → Type 0
 Turning es names os j = TurnedTo es names (parts_in es os) j
 
 module _ (es : List Entry) (names : ℕ) where
-  pub flattens_over : (z : Result (ArrayVec Origin) TooMany) → IsErr z → room < length (parts_made names es) → Flattens es names z
+  pub flattens_over : {room : ℕ} (z : Result (ArrayVec Origin) TooMany) → IsErr z → room < length (parts_made names es) → Flattens room es names z
   flattens_over (Ok os) h l = absurd (false≢true h)
   flattens_over (Err x) h l = l
 
@@ -207,12 +207,12 @@ module _ (es : List Entry) (names : ℕ) where
   names_most : length (name_parts_lem names ++ through (pendings (axioms_of (nodes_of es))) (name_parts_lem names)) ≤ length (parts_made names es)
   names_most = left_grows (left-axioms names (axioms_of (nodes_of es)))
 
-  pub too-many-names : room < names → room < length (parts_made names es)
+  pub too-many-names : {room : ℕ} → room < names → room < length (parts_made names es)
   too-many-names h =
       omega (arith, names_most, names-length names, length-append (name_parts_lem names) (through (pendings (axioms_of (nodes_of es))) (name_parts_lem names)))
 
   module _ (os : List Origin) (n : parts_in es os ≡ name_parts_lem names) where
-    pub too_many_axioms : room < length (parts_in es os ++ through (pendings (axioms_of (nodes_of es))) (parts_in es os)) →
+    pub too_many_axioms : {room : ℕ} → room < length (parts_in es os ++ through (pendings (axioms_of (nodes_of es))) (parts_in es os)) →
         room < length (parts_made names es)
     too_many_axioms h = omega (arith, names_most, rw n at h)
 
@@ -234,7 +234,7 @@ module _ (es : List Entry) (names : ℕ) where
           Turning es names after (j + 1)
       turning_next after e = rw (e, add-one) taken
 
-      pub turning_over : room < length (parts_in es os ++ through (turn_of j (part_of es j o)) (parts_in es os)) → room < length (parts_made names es)
+      pub turning_over : {room : ℕ} → room < length (parts_in es os ++ through (turn_of j (part_of es j o)) (parts_in es os)) → room < length (parts_made names es)
       turning_over w = omega (arith, left_grows taken.left)
 
     pub turning_end : length os ≤ j → parts_in es os ≡ parts_made names es

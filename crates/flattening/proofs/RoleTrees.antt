@@ -9,7 +9,7 @@ use Rattle.records.specs.declared.nodes.Node.TheVariants.{Everything, Nothing, N
 use Rattle.syntax.specs.Concepts.{Role as RoleTree, named, inverse, not_r, and_r, or_r, node_of, role_below}
 use Rattle.syntax.specs.Flatten.{same_role_lem}
 use Rattle.flattening.specs.Trees.{NodeOf, role_at}
-use Rattle.flattening.specs.AlikeParts.{Outer}
+use Rattle.flattening.specs.AlikeParts.{OuterBelow, Outer}
 use Rattle.flattening.specs.declared.trees.Tree.{Tree}
 use Rattle.syntax.proofs.Trees.{role-low}
 use Rattle.syntax.proofs.Alike.{role_same, same_role_law}
@@ -60,22 +60,22 @@ NodeRole n (not_r u) = (a : ℕ) × n ≡ RoleNot a
 NodeRole n (and_r u v) = (a : ℕ) × (b : ℕ) × n ≡ RoleAnd a b
 NodeRole n (or_r u v) = (a : ℕ) × (b : ℕ) × n ≡ RoleOr a b
 
-pub outer_is : (t : Tree) (n : Node) (u : RoleTree) → Outer t n → role_at t ≡ u → NodeRole n u
-outer_is t (Role k) u o q = rw (← q, o) refl
-outer_is t (Inverse k) u o q = rw (← q, o) refl
-outer_is t (RoleNot a) u o q = rw (← q, o.1) (a, refl)
-outer_is t (RoleAnd a b) u o q = rw (← q, o.1) (a, b, refl)
-outer_is t (RoleOr a b) u o q = rw (← q, o.1) (a, b, refl)
-outer_is t Everything u o q = absurd o
-outer_is t Nothing u o q = absurd o
-outer_is t (Name k) u o q = absurd o
-outer_is t (Not a) u o q = absurd o
-outer_is t (And a b) u o q = absurd o
-outer_is t (Or a b) u o q = absurd o
-outer_is t (Exists a b) u o q = absurd o
-outer_is t (Forall a b) u o q = absurd o
-outer_is t (Axiom a b) u o q = absurd o
-outer_is t (RoleInclusion a b) u o q = absurd o
+pub outer_is : (es : List Entry) (below r : ℕ) (n : Node) (u : RoleTree) → OuterBelow es below r n → role_below es below r ≡ u → NodeRole n u
+outer_is es below r (Role k) u o q = rw (← q, o) refl
+outer_is es below r (Inverse k) u o q = rw (← q, o) refl
+outer_is es below r (RoleNot a) u o q = rw (← q, o.1) (a, refl)
+outer_is es below r (RoleAnd a b) u o q = rw (← q, o.1) (a, b, refl)
+outer_is es below r (RoleOr a b) u o q = rw (← q, o.1) (a, b, refl)
+outer_is es below r Everything u o q = absurd o
+outer_is es below r Nothing u o q = absurd o
+outer_is es below r (Name k) u o q = absurd o
+outer_is es below r (Not a) u o q = absurd o
+outer_is es below r (And a b) u o q = absurd o
+outer_is es below r (Or a b) u o q = absurd o
+outer_is es below r (Exists a b) u o q = absurd o
+outer_is es below r (Forall a b) u o q = absurd o
+outer_is es below r (Axiom a b) u o q = absurd o
+outer_is es below r (RoleInclusion a b) u o q = absurd o
 
 -- ---- trees alike
 
@@ -88,13 +88,11 @@ same_iff u v b f g = go b (same_role_lem u v) refl f g (role_same u v) (same_rol
     go false false q f g h k = refl
 
 -- one record of one table, whatever it is below
-pub records_same : (x y : Tree) → x.table.now ≡ y.table.now → (x.number ≡ y.number) × (x.number < x.below) × (y.number < y.below) →
-    true ≡ same_role_lem (role_at x) (role_at y)
-records_same x y e w =
-    sym (same_role_law (role_at x) (role_at y) (go x.table.now y.table.now x.below y.below x.number y.number e w.0 w.1 w.2))
+pub records_same : (es : List Entry) (m n a b : ℕ) → (a ≡ b) × (a < m) × (b < n) → true ≡ same_role_lem (role_below es m a) (role_below es n b)
+records_same es m n a b w = sym (same_role_law (role_below es m a) (role_below es n b) (go w.0 w.1 w.2))
   where
-    go : (es fs : List Entry) (m n a b : ℕ) → es ≡ fs → a ≡ b → a < m → b < n → role_below es m a ≡ role_below fs n b
-    go es fs m n a b e q l h = let k : b < m = omega arith in rw (e, q) (role-low fs m n b k h)
+    go : a ≡ b → a < m → b < n → role_below es m a ≡ role_below es n b
+    go q l h = let k : b < m = omega arith in rw q (role-low es m n b k h)
 
 pub unlike : (u v : RoleTree) → (u ≡ v → ⊥) → false ≡ same_role_lem u v
 unlike u v n = same_iff u v false (λ e. absurd (false≢true e)) (λ e. absurd (n e))

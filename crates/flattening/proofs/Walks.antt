@@ -12,7 +12,7 @@ use Rattle.syntax.specs.Concepts.{Role, node_of, concept_below, role_below}
 use Rattle.syntax.specs.Normal.{Tag, tag, Nf, exists_n, forall_n, plain}
 use Rattle.syntax.specs.Flatten.{Atom, Filler, Part, Lookup, atom, shared, meet_one, walk, walk_by}
 use Rattle.flattening.specs.Trees.{NodeBelow, nf_below}
-use Rattle.flattening.specs.Origins.{restriction, parts_in, room}
+use Rattle.flattening.specs.Origins.{restriction, parts_in}
 use Rattle.flattening.specs.Adding.{Outcome, AddsParts, met, Meets}
 use Rattle.flattening.specs.declared.parts.Quantifier.{Quantifier}
 use Rattle.flattening.specs.declared.parts.Origin.{Origin}
@@ -43,17 +43,17 @@ module _ (es : List Entry) (below r : ℕ) (n : Node) (h : NodeBelow es below r 
 
   -- and, or: first the one, then the other
   module _ (a b : ℕ) (w : (n ≡ And a b) ⊎ (n ≡ Or a b)) (odd : Bool) (before : List Origin) where
-    pub adds_two : (mid after : List Origin) (z : Outcome) →
+    pub adds_two : (room : ℕ) (mid after : List Origin) (z : Outcome) →
         parts_in es mid ≡ parts_in es before ++ parts_by (nf_below odd es r a) (parts_in es before) →
-        AddsParts es (nf_below odd es r b) mid after z → AddsParts es (nf_below odd es below r) before after z
-    adds_two mid after z e d =
-        adds_as es (both (parts_by (nf_below odd es r a)) (parts_by (nf_below odd es r b))) before after (parts_by (nf_below odd es below r)) z
-        (walk_two a b w odd (parts_in es before)) (adds_then es (parts_by (nf_below odd es r a)) (parts_by (nf_below odd es r b)) before mid after z e d)
+        AddsParts room es (nf_below odd es r b) mid after z → AddsParts room es (nf_below odd es below r) before after z
+    adds_two room mid after z e d =
+        adds_as es (both (parts_by (nf_below odd es r a)) (parts_by (nf_below odd es r b))) before after room (parts_by (nf_below odd es below r)) z
+        (walk_two a b w odd (parts_in es before)) (adds_then es (parts_by (nf_below odd es r a)) (parts_by (nf_below odd es r b)) before room mid after z e d)
 
-    pub adds_one : (after : List Origin) (z : Outcome) → IsErr z →
-        room < length (parts_in es before ++ parts_by (nf_below odd es r a) (parts_in es before)) → AddsParts es (nf_below odd es below r) before after z
-    adds_one after z h l =
-        adds_as es (both (parts_by (nf_below odd es r a)) (parts_by (nf_below odd es r b))) before after (parts_by (nf_below odd es below r)) z
+    pub adds_one : {room : ℕ} (after : List Origin) (z : Outcome) → IsErr z →
+        room < length (parts_in es before ++ parts_by (nf_below odd es r a) (parts_in es before)) → AddsParts room es (nf_below odd es below r) before after z
+    adds_one {room} after z h l =
+        adds_as es (both (parts_by (nf_below odd es r a)) (parts_by (nf_below odd es r b))) before after room (parts_by (nf_below odd es below r)) z
         (walk_two a b w odd (parts_in es before)) (adds_cut es (parts_by (nf_below odd es r a)) (parts_by (nf_below odd es r b)) before after z h l)
 
 -- a restriction of normal forms
@@ -106,10 +106,10 @@ module _ (es : List Entry) (below r : ℕ) (n : Node) (h : NodeBelow es below r 
           let b = fresh-below odd es r f z in
           nf_same odd es r (length es) f (concept_low es r (length es) f b (omega (arith, b, h.1)))
 
-  pub adds_restriction : (before after : List Origin) (z : Outcome) →
+  pub adds_restriction : (room : ℕ) (before after : List Origin) (z : Outcome) →
       nf_below odd es below r ≡ nf_restricted q (tag r odd f) (role_below es r u) (nf_below odd es r f) →
       node_first n ≡ u →
-      Meets es q (record { number = r; odd = odd; filler = f }) (atom (nf_below odd es r f)) before after z → AddsParts es (nf_below odd es below r) before after z
-  adds_restriction before after z e w m =
-      adds_as es (met es q (record { number = r; odd = odd; filler = f }) (atom (nf_below odd es r f))) before after (parts_by (nf_below odd es below r)) z
+      Meets room es q (record { number = r; odd = odd; filler = f }) (atom (nf_below odd es r f)) before after z → AddsParts room es (nf_below odd es below r) before after z
+  adds_restriction room before after z e w m =
+      adds_as es (met es q (record { number = r; odd = odd; filler = f }) (atom (nf_below odd es r f))) before after room (parts_by (nf_below odd es below r)) z
       (walk_restriction e w (parts_in es before)) m

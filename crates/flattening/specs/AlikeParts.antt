@@ -7,7 +7,6 @@ use Rattle.records.specs.declared.nodes.Node.TheVariants.{Everything, Nothing, N
 use Rattle.syntax.specs.Concepts.{Role as RoleTree, named, inverse, not_r, and_r, or_r, role_below}
 use Rattle.syntax.specs.Normal.{Tag}
 use Rattle.syntax.specs.Flatten.{atomic, alike, shared}
-use Rattle.flattening.specs.Trees.{role_at}
 use Rattle.flattening.specs.Origins.{atom_is, restriction, part_of, parts_in}
 use Rattle.flattening.specs.declared.trees.Tree.{Tree}
 use Rattle.flattening.specs.declared.parts.Atom.{Atom}
@@ -19,23 +18,26 @@ abbrev pub place_found : Option ℕ → Maybe ℕ
 place_found (Some j) = some j
 place_found None = none
 
--- a tree's role by its outermost record, which is one of a role
+-- the role of record r, of those below a number, by its outermost record, which is one of a role
+abbrev pub OuterBelow : List Entry → ℕ → ℕ → Node → Type 0
+OuterBelow es below r (Role k) = role_below es below r ≡ named k
+OuterBelow es below r (Inverse k) = role_below es below r ≡ inverse k
+OuterBelow es below r (RoleNot a) = (r < below) × (role_below es below r ≡ not_r (role_below es r a))
+OuterBelow es below r (RoleAnd a b) = (r < below) × (role_below es below r ≡ and_r (role_below es r a) (role_below es r b))
+OuterBelow es below r (RoleOr a b) = (r < below) × (role_below es below r ≡ or_r (role_below es r a) (role_below es r b))
+OuterBelow es below r Everything = ⊥
+OuterBelow es below r Nothing = ⊥
+OuterBelow es below r (Name k) = ⊥
+OuterBelow es below r (Not a) = ⊥
+OuterBelow es below r (And a b) = ⊥
+OuterBelow es below r (Or a b) = ⊥
+OuterBelow es below r (Exists a b) = ⊥
+OuterBelow es below r (Forall a b) = ⊥
+OuterBelow es below r (Axiom a b) = ⊥
+OuterBelow es below r (RoleInclusion a b) = ⊥
+
 abbrev pub Outer : Tree → Node → Type 0
-Outer t (Role k) = role_at t ≡ named k
-Outer t (Inverse k) = role_at t ≡ inverse k
-Outer t (RoleNot a) = (t.number < t.below) × (role_at t ≡ not_r (role_below t.table.now t.number a))
-Outer t (RoleAnd a b) = (t.number < t.below) × (role_at t ≡ and_r (role_below t.table.now t.number a) (role_below t.table.now t.number b))
-Outer t (RoleOr a b) = (t.number < t.below) × (role_at t ≡ or_r (role_below t.table.now t.number a) (role_below t.table.now t.number b))
-Outer t Everything = ⊥
-Outer t Nothing = ⊥
-Outer t (Name k) = ⊥
-Outer t (Not a) = ⊥
-Outer t (And a b) = ⊥
-Outer t (Or a b) = ⊥
-Outer t (Exists a b) = ⊥
-Outer t (Forall a b) = ⊥
-Outer t (Axiom a b) = ⊥
-Outer t (RoleInclusion a b) = ⊥
+Outer t n = OuterBelow t.table.now t.below t.number n
 
 -- two trees are one record, if they are of one table
 abbrev pub OneRecord : Tree → Tree → Type 0

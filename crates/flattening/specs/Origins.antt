@@ -61,10 +61,6 @@ parts_in es os = parts_from es 0 os
 abbrev pub parts_made : ℕ → List Entry → List Part
 parts_made names es = (flatten names (axioms_of (nodes_of es))).parts
 
--- room for so many parts
-abbrev pub room : ℕ
-room = 20
-
 -- the three bytes of a part (01, "list marks")
 unfoldable pub slot_bytes : Origin → List ℕ
 slot_bytes (Name t) = 0 ∷ t ∷ 0 ∷ []

@@ -3,7 +3,7 @@ ghost use Rattle.std.specs.Prelude.{ℕ, ◌≡◌, ◌<◌, ◌≤◌, false, t
 ghost use Rattle.records.specs.Entries.{Entry};
 ghost use Rattle.syntax.specs.Flatten.{atom, name_parts_lem};
 ghost use Rattle.flattening.specs.Origins.{atom_found};
-ghost use Rattle.flattening.specs.Trees.{nf_of};
+ghost use Rattle.flattening.specs.Trees.{nf_below, nf_of};
 ghost use Rattle.flattening.specs.Adding.{AddsParts, Names, AddsAxiom, AddsAxioms, AddsTurn, MeetsAt, Flattens};
 
 use crate::sharing::{first_alike, restricted_role};
@@ -51,7 +51,7 @@ impl Default for Origin {
     }
 }
 
-// There is no room for one part more: a list has 20, above what c + L may be, since there is no heap.
+// There is no room for one part more: a list has as many as its caller asks for, since there is no heap.
 // Not `CapacityError`, which hands back a part that nobody wants.
 #[derive(Clone, Copy, PartialEq, Eq)]
 pub struct TooMany;
@@ -62,39 +62,70 @@ impl From<CapacityError<Origin>> for TooMany {
     }
 }
 
-// The normal form of a concept as a filler; none for one that needs a fresh name.
-// Here and below two functions call each other, as document 01 asks.
-#[cycle(negated_atom_plain_atom)]
-pub fn plain_atom(tree: Tree) -> Option<Atom>
-    ensures { atom_found result ≡ atom (nf_of false tree.entry) }
+// The normal form of a concept as a filler, put where the caller lends; none for one that needs a fresh name.
+// Here and below two functions call each other, as document 01 asks. They take a tree's parts and a place for what they find, since a
+// `Tree` and an `Option` would lie on the stack: so the last call is a jump, and deep trees take no stack.
+#[cycle(negated_atom_into_plain_atom_into)]
+fn plain_atom_into(table: &Table, number: u8, below: usize, found: &mut Option<Atom>)
+    ensures { atom_found found.new ≡ atom (nf_below false table.now below number) }
 {
-    let Some(node) = tree.node() else {
-        return Some(Atom::Nothing);
+    let tree = Tree {
+        table,
+        number,
+        below,
     };
-    match node {
+    let Some(node) = tree.node() else {
+        *found = Some(Atom::Nothing);
+        return;
+    };
+    *found = match node {
         Node::Everything => Some(Atom::Everything),
         Node::Name(t) => Some(Atom::Name(t)),
-        Node::Not(a) => negated_atom(tree.operand(a)),
+        Node::Not(a) => return negated_atom_into(table, a, usize::from(number), found),
         Node::And(_, _) | Node::Or(_, _) | Node::Exists(_, _) | Node::Forall(_, _) => None,
         _ => Some(Atom::Nothing),
-    }
+    };
 }
 
 // The same under a not.
-#[cycle(negated_atom_plain_atom)]
+#[cycle(negated_atom_into_plain_atom_into)]
+fn negated_atom_into(table: &Table, number: u8, below: usize, found: &mut Option<Atom>)
+    ensures { atom_found found.new ≡ atom (nf_below true table.now below number) }
+{
+    let tree = Tree {
+        table,
+        number,
+        below,
+    };
+    let Some(node) = tree.node() else {
+        *found = Some(Atom::Everything);
+        return;
+    };
+    *found = match node {
+        Node::Everything => Some(Atom::Nothing),
+        Node::Name(_) => None,
+        Node::Not(a) => return plain_atom_into(table, a, usize::from(number), found),
+        Node::And(_, _) | Node::Or(_, _) | Node::Exists(_, _) | Node::Forall(_, _) => None,
+        _ => Some(Atom::Everything),
+    };
+}
+
+// The normal form of a concept as a filler; none for one that needs a fresh name.
+pub fn plain_atom(tree: Tree) -> Option<Atom>
+    ensures { atom_found result ≡ atom (nf_of false tree.entry) }
+{
+    let mut found = None;
+    plain_atom_into(tree.table, tree.number, tree.below, &mut found);
+    found
+}
+
+// The same under a not.
 pub fn negated_atom(tree: Tree) -> Option<Atom>
     ensures { atom_found result ≡ atom (nf_of true tree.entry) }
 {
-    let Some(node) = tree.node() else {
-        return Some(Atom::Everything);
-    };
-    match node {
-        Node::Everything => Some(Atom::Nothing),
-        Node::Name(_) => None,
-        Node::Not(a) => plain_atom(tree.operand(a)),
-        Node::And(_, _) | Node::Or(_, _) | Node::Exists(_, _) | Node::Forall(_, _) => None,
-        _ => Some(Atom::Everything),
-    }
+    let mut found = None;
+    negated_atom_into(tree.table, tree.number, tree.below, &mut found);
+    found
 }
 
 // A filler, read plainly or under a not.
@@ -110,14 +141,14 @@ fn filler_atom(tree: Tree, odd: bool) -> Option<Atom>
 
 // A restriction met: its part, and the next one for its filler where that needs a fresh name; no part where one alike is there.
 // Tree or table and the list of parts are no struct: their one fact, the room, is in the list's type.
-fn meet(
+fn meet<const N: usize>(
     tree: Tree,
     odd: bool,
     quantifier: Quantifier,
     filler: u8,
-    parts: &mut ArrayVec<Origin, 20>,
+    parts: &mut ArrayVec<Origin, N>,
 ) -> Result<(), TooMany>
-    ensures { MeetsAt tree.entry odd quantifier filler parts.old.items parts.new.items result }
+    ensures { MeetsAt N tree.entry odd quantifier filler parts.old.items parts.new.items result }
 {
     let source = Source {
         number: tree.number,
@@ -145,17 +176,27 @@ fn meet(
 
 // The parts of the normal form of a concept, from left to right.
 #[cycle(negated_parts_plain_parts)]
-fn plain_parts(tree: Tree, parts: &mut ArrayVec<Origin, 20>) -> Result<(), TooMany>
-    ensures { AddsParts tree.entry.table.now (nf_of false tree.entry) parts.old.items parts.new.items result }
+fn plain_parts<const N: usize>(
+    table: &Table,
+    number: u8,
+    below: usize,
+    parts: &mut ArrayVec<Origin, N>,
+) -> Result<(), TooMany>
+    ensures { AddsParts N table.now (nf_below false table.now below number) parts.old.items parts.new.items result }
 {
+    let tree = Tree {
+        table,
+        number,
+        below,
+    };
     let Some(node) = tree.node() else {
         return Ok(());
     };
     match node {
-        Node::Not(a) => negated_parts(tree.operand(a), parts),
+        Node::Not(a) => negated_parts(table, a, usize::from(number), parts),
         Node::And(a, b) | Node::Or(a, b) => {
-            plain_parts(tree.operand(a), parts)?;
-            plain_parts(tree.operand(b), parts)
+            plain_parts(table, a, usize::from(number), parts)?;
+            plain_parts(table, b, usize::from(number), parts)
         }
         Node::Exists(_, filler) => meet(tree, false, Quantifier::Exists, filler, parts),
         Node::Forall(_, filler) => meet(tree, false, Quantifier::Forall, filler, parts),
@@ -165,17 +206,27 @@ fn plain_parts(tree: Tree, parts: &mut ArrayVec<Origin, 20>) -> Result<(), TooMa
 
 // The same under a not.
 #[cycle(negated_parts_plain_parts)]
-fn negated_parts(tree: Tree, parts: &mut ArrayVec<Origin, 20>) -> Result<(), TooMany>
-    ensures { AddsParts tree.entry.table.now (nf_of true tree.entry) parts.old.items parts.new.items result }
+fn negated_parts<const N: usize>(
+    table: &Table,
+    number: u8,
+    below: usize,
+    parts: &mut ArrayVec<Origin, N>,
+) -> Result<(), TooMany>
+    ensures { AddsParts N table.now (nf_below true table.now below number) parts.old.items parts.new.items result }
 {
+    let tree = Tree {
+        table,
+        number,
+        below,
+    };
     let Some(node) = tree.node() else {
         return Ok(());
     };
     match node {
-        Node::Not(a) => plain_parts(tree.operand(a), parts),
+        Node::Not(a) => plain_parts(table, a, usize::from(number), parts),
         Node::And(a, b) | Node::Or(a, b) => {
-            negated_parts(tree.operand(a), parts)?;
-            negated_parts(tree.operand(b), parts)
+            negated_parts(table, a, usize::from(number), parts)?;
+            negated_parts(table, b, usize::from(number), parts)
         }
         Node::Exists(_, filler) => meet(tree, true, Quantifier::Forall, filler, parts),
         Node::Forall(_, filler) => meet(tree, true, Quantifier::Exists, filler, parts),
@@ -184,10 +235,11 @@ fn negated_parts(tree: Tree, parts: &mut ArrayVec<Origin, 20>) -> Result<(), Too
 }
 
 // The parts of so many names.
-fn name_parts(names: usize) -> Result<ArrayVec<Origin, 20>, TooMany>
-    ensures { Names names result }
+fn name_parts<const N: usize>(names: usize) -> Result<ArrayVec<Origin, N>, TooMany>
+    requires { N ≤ 255 }
+    ensures { Names N names result }
 {
-    let mut parts: ArrayVec<Origin, 20> = ArrayVec::new();
+    let mut parts: ArrayVec<Origin, N> = ArrayVec::new();
     for i in 0..names {
         parts.try_push(Origin::Name(i as u8))?;
     }
@@ -195,8 +247,12 @@ fn name_parts(names: usize) -> Result<ArrayVec<Origin, 20>, TooMany>
 }
 
 // The parts of record i, if it is an axiom.
-fn axiom_at(table: &Table, i: u8, parts: &mut ArrayVec<Origin, 20>) -> Result<(), TooMany>
-    ensures { AddsAxiom table.now i parts.old.items parts.new.items result }
+fn axiom_at<const N: usize>(
+    table: &Table,
+    i: u8,
+    parts: &mut ArrayVec<Origin, N>,
+) -> Result<(), TooMany>
+    ensures { AddsAxiom N table.now i parts.old.items parts.new.items result }
 {
     let Some(node) = table.node(i) else {
         return Ok(());
@@ -204,19 +260,17 @@ fn axiom_at(table: &Table, i: u8, parts: &mut ArrayVec<Origin, 20>) -> Result<()
     let Node::Axiom(left, right) = node else {
         return Ok(());
     };
-    let axiom = Tree {
-        table,
-        number: i,
-        below: table.len(),
-    };
-    negated_parts(axiom.operand(left), parts)?;
-    plain_parts(axiom.operand(right), parts)
+    negated_parts(table, left, usize::from(i), parts)?;
+    plain_parts(table, right, usize::from(i), parts)
 }
 
 // The parts of all axioms.
-// By number, since an axiom is read as a `Tree`, which takes a record's number.
-fn axiom_parts(table: &Table, parts: &mut ArrayVec<Origin, 20>) -> Result<(), TooMany>
-    ensures { AddsAxioms table.now parts.old.items parts.new.items result }
+// By number, since an axiom's sides are read with the records below it.
+fn axiom_parts<const N: usize>(
+    table: &Table,
+    parts: &mut ArrayVec<Origin, N>,
+) -> Result<(), TooMany>
+    ensures { AddsAxioms N table.now parts.old.items parts.new.items result }
 {
     for i in 0..table.len() {
         axiom_at(table, i as u8, parts)?;
@@ -225,26 +279,26 @@ fn axiom_parts(table: &Table, parts: &mut ArrayVec<Origin, 20>) -> Result<(), To
 }
 
 // The parts that a part gives when its turn comes: a fresh one those of its filler.
-fn turn(table: &Table, part: Origin, parts: &mut ArrayVec<Origin, 20>) -> Result<(), TooMany>
-    ensures { AddsTurn table.now part parts.old.items parts.new.items result }
+fn turn<const N: usize>(
+    table: &Table,
+    part: Origin,
+    parts: &mut ArrayVec<Origin, N>,
+) -> Result<(), TooMany>
+    ensures { AddsTurn N table.now part parts.old.items parts.new.items result }
 {
     let Origin::Fresh(source) = part else {
         return Ok(());
     };
-    let filler = Tree {
-        table,
-        number: source.filler,
-        below: table.len(),
-    };
     if source.odd {
-        return negated_parts(filler, parts);
+        return negated_parts(table, source.filler, table.len(), parts);
     }
-    plain_parts(filler, parts)
+    plain_parts(table, source.filler, table.len(), parts)
 }
 
-// The parts of a knowledge base whose names are so many.
-pub fn flatten(table: &Table, names: usize) -> Result<ArrayVec<Origin, 20>, TooMany>
-    ensures { Flattens table.now names result }
+// The parts of a knowledge base whose names are so many, or there are more than the caller has room for: then no more are looked at.
+pub fn flatten<const N: usize>(table: &Table, names: usize) -> Result<ArrayVec<Origin, N>, TooMany>
+    requires { N ≤ 255 }
+    ensures { Flattens N table.now names result }
 {
     let mut parts = name_parts(names)?;
     axiom_parts(table, &mut parts)?;

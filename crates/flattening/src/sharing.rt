@@ -1,5 +1,6 @@
 // Restrictions written alike: which parts share.
 ghost use Rattle.std.specs.Prelude.{◌≡◌, true};
+ghost use Rattle.syntax.specs.Concepts.{role_below};
 ghost use Rattle.syntax.specs.Flatten.{same_role_lem};
 ghost use Rattle.flattening.specs.Origins.{role_of};
 ghost use Rattle.flattening.specs.Trees.{role_at};
@@ -36,23 +37,34 @@ fn same_record(x: Tree, y: Tree) -> bool
 }
 
 // Whether two roles of one table are written alike: the same tree, whatever the records.
-fn same_role(x: Tree, y: Tree) -> bool
-    requires { x.table.now ≡ y.table.now }
-    ensures { result ≡ same_role_lem (role_at x.entry) (role_at y.entry) }
+// Numbers and no `Tree`, which would be copied to the stack: so the last call is a jump, and a tree deep to the right takes no stack.
+fn same_role(table: &Table, left: u8, left_below: usize, right: u8, right_below: usize) -> bool
+    ensures { result ≡ same_role_lem (role_below table.now left_below left) (role_below table.now right_below right) }
 {
+    let x = Tree {
+        table,
+        number: left,
+        below: left_below,
+    };
+    let y = Tree {
+        table,
+        number: right,
+        below: right_below,
+    };
     if same_record(x, y) {
         return true;
     }
+    let (i, j) = (usize::from(left), usize::from(right));
     match (outer_role(x), outer_role(y)) {
         (Node::Role(a), Node::Role(b)) => a == b,
         (Node::Inverse(a), Node::Inverse(b)) => a == b,
-        (Node::RoleNot(a), Node::RoleNot(b)) => same_role(x.operand(a), y.operand(b)),
+        (Node::RoleNot(a), Node::RoleNot(b)) => same_role(table, a, i, b, j),
         // Two arms, since the roles of two kinds are never alike.
         (Node::RoleAnd(a, c), Node::RoleAnd(b, d)) => {
-            same_role(x.operand(a), y.operand(b)) && same_role(x.operand(c), y.operand(d))
+            same_role(table, a, i, b, j) && same_role(table, c, i, d, j)
         }
         (Node::RoleOr(a, c), Node::RoleOr(b, d)) => {
-            same_role(x.operand(a), y.operand(b)) && same_role(x.operand(c), y.operand(d))
+            same_role(table, a, i, b, j) && same_role(table, c, i, d, j)
         }
         _ => false,
     }
@@ -80,7 +92,16 @@ fn is_alike(part: Origin, quantifier: Quantifier, role: Tree, filler: Atom) -> b
         Origin::Restriction(kind, source, atom) => {
             kind == quantifier
                 && atom == Some(filler)
-                && same_role(role, restricted_role(role.table, source))
+                && {
+                    let other = restricted_role(role.table, source);
+                    same_role(
+                        role.table,
+                        role.number,
+                        role.below,
+                        other.number,
+                        other.below,
+                    )
+                }
         }
     }
 }

@@ -11,7 +11,7 @@ use crate::composed::first_beyond_text;
 use crate::writer::Writer;
 use records::table::Table;
 use refusals::{Reason, Refusal};
-use tbox::admission::Admitted;
+use tbox::admission::{Admitted, PartList};
 
 // The text of a sheet. It is gone through twice, first for its length, since a refusal leaves the buffer as it was.
 // Calls nest at most as deep as the 255 records of a sheet.
@@ -19,7 +19,8 @@ pub fn export(sheet: &[u8], out: &mut [u8]) -> Result<usize, Refusal>
     ensures { Writes (exported sheet.now) out.old out.new result }
 {
     let mut table = Table::new();
-    Admitted::read(sheet, &mut table)?;
+    let mut parts = PartList::new();
+    Admitted::read(sheet, &mut table, &mut parts)?;
     if let Some(at) = first_beyond_text(&table) {
         return Err(Refusal::at(Reason::BeyondText, at));
     }

@@ -44,12 +44,12 @@ filler_or_next i None f h = rw add-one at h
 
 -- what loading a sheet answers
 module _ (sheet : List ℕ) (es : List Entry) (a : Admitted) (h : Reads sheet es a) where
-  part_is : (xs : List PlainPart) → PartsAre es a.parts.items (length a.parts.items) xs →
-      (i : ℕ) → i < length a.parts.items → PartIs (part_at (parts_of (kb_admitted es a)) i) (get_or xs i no_part)
-  part_is xs m i l = rw (← h.parts, parts_at es a.parts.items i (Name 0) l) (m.each i (Name 0) l)
+  part_is : (xs : List PlainPart) → PartsAre es a.parts.now (length a.parts.now) xs →
+      (i : ℕ) → i < length a.parts.now → PartIs (part_at (parts_of (kb_admitted es a)) i) (get_or xs i no_part)
+  part_is xs m i l = rw (← h.parts, parts_at es a.parts.now i (Name 0) l) (m.each i (Name 0) l)
 
-  pub loads_whole : (b : Base) → b.names ≡ a.names → b.size.roles ≡ a.roles → b.size.parts ≡ length a.parts.items →
-      PartsAre es a.parts.items (length a.parts.items) b.parts.items → GoodOf es a.names (length a.parts.items) b.good →
+  pub loads_whole : (b : Base) → b.names ≡ a.names → b.size.roles ≡ a.roles → b.size.parts ≡ length a.parts.now →
+      PartsAre es a.parts.now (length a.parts.now) b.parts.items → GoodOf es a.names (length a.parts.now) b.good →
       ClosedOf (inclusions_of (nodes_of es)) b.closed → Loads sheet (Ok b)
   loads_whole b t l c m g i = (
     kb_admitted es a,

@@ -56,10 +56,10 @@ list-refused r b x e = rw e (record { answer = refl; list = refl })
 
 -- and of one that is read
 module _ (sheet : List ℕ) (es : List Entry) (a : Admitted) (h : Reads sheet es a) where
-  pub count-is : length a.parts.items ≡ length (parts_of (kb_admitted es a))
-  count-is = sym (made-length es a.names a.parts.items h.parts)
+  pub count-is : length a.parts.now ≡ length (parts_of (kb_admitted es a))
+  count-is = sym (made-length es a.names a.parts.now h.parts)
 
-  module _ (n : Counts) (c : CountsParts a.parts.items a.roles n) where
+  module _ (n : Counts) (c : CountsParts a.parts.now a.roles n) where
     counts_are : part_counts n ≡ counts_of (parts_of (kb_admitted es a))
     counts_are = rw h.parts at (c.parts es)
 
@@ -73,7 +73,7 @@ module _ (sheet : List ℕ) (es : List Entry) (a : Admitted) (h : Reads sheet es
     read-sum = rw h.reading (ap sum_of counts_are ∙ counts_sum (parts_of (kb_admitted es a)))
 
   module _ (b : List ℕ) where
-    pub list-short : (x : Refusal) → x.reason ≡ ListTooShort → x.place ≡ 0 → length b < 3 * length a.parts.items → Lists (read_kb limit sheet) b b (Err x)
+    pub list-short : (x : Refusal) → x.reason ≡ ListTooShort → x.place ≡ 0 → length b < 3 * length a.parts.now → Lists (read_kb limit sheet) b b (Err x)
     unfolding list_says list_leaves
     list-short x n p l =
         rw (h.reading, n, p) (record { answer = simp (lt-ltb _ _ less); list = simp (lt-ltb _ _ less) })
@@ -81,13 +81,13 @@ module _ (sheet : List ℕ) (es : List Entry) (a : Admitted) (h : Reads sheet es
         less : length b < 3 * length (parts_of (kb_admitted es a))
         less = omega (arith, count-is)
 
-    pub list-whole : (c : ℕ) → c ≡ length a.parts.items → 3 * c ≤ length b → (l : List ℕ) →
-        l ≡ flat_map slot_bytes a.parts.items ++ drop (3 * length a.parts.items) b → Lists (read_kb limit sheet) b l (Ok c)
+    pub list-whole : (c : ℕ) → c ≡ length a.parts.now → 3 * c ≤ length b → (l : List ℕ) →
+        l ≡ flat_map slot_bytes a.parts.now ++ drop (3 * length a.parts.now) b → Lists (read_kb limit sheet) b l (Ok c)
     unfolding list_says list_leaves
     list-whole c e m l q =
         rw h.reading (record {
           answer = ap (λ (x : ℕ). 0 ∷ 0 ∷ x ∷ []) (e ∙ count-is) ∙ simp (le-ltb _ _ room);
-          list = q ∙ rw (slots-bytes es 0 a.parts.items, h.parts, count-is) (simp (le-ltb _ _ room));
+          list = q ∙ rw (slots-bytes es 0 a.parts.now, h.parts, count-is) (simp (le-ltb _ _ room));
         })
       where
         room : 3 * length (parts_of (kb_admitted es a)) ≤ length b

@@ -25,7 +25,7 @@ kb_admitted es a =
 pub record Reads (sheet : List ℕ) (es : List Entry) (a : Admitted) : Type 0 where
   pub records : (p : Progress) × Scans sheet es (Ok p)
   pub reading : read_kb limit sheet ≡ kb (kb_admitted es a)
-  pub parts : Made es a.names a.parts.items
+  pub parts : Made es a.names a.parts.now
 
 -- a sheet that is read, or refused
 abbrev pub Admits : List ℕ → List Entry → Result Admitted Refusal → Type 0

@@ -14,7 +14,9 @@ use records::table::Table;
 fn inclusion_word(left: Tree, right: Tree, w: u64) -> u64
     ensures { result ≡ word_at (rbox_on (inclusion_made left.entry right.entry ∷ [])) w }
 {
-    bitset::join(bitset::complement(role_word(left, w)), role_word(right, w))
+    let x = role_word(left.table, left.number, left.below, w);
+    let y = role_word(right.table, right.number, right.below, w);
+    bitset::join(bitset::complement(x), y)
 }
 
 // Takes out of some role sets those on which record i, if it is a role inclusion, fails.

@@ -9,7 +9,7 @@ ghost use Rattle.flattening.specs.Origins.{slot_bytes};
 ghost use Rattle.tbox.specs.Answers.{read_numbers, AnswersSum, Lists};
 ghost use Rattle.tbox.specs.CountedParts.{CountsParts};
 
-use crate::admission::Admitted;
+use crate::admission::{Admitted, PartList};
 use flattening::parts::{Origin, Quantifier};
 use records::table::Table;
 use refusals::{Reason, Refusal};
@@ -59,8 +59,9 @@ pub fn read(sheet: &[u8]) -> Result<Counts, Refusal>
     ensures sum { AnswersSum (read_kb limit sheet.now) result }
 {
     let mut table = Table::new();
-    let admitted = Admitted::read(sheet, &mut table)?;
-    Ok(count_parts(&admitted.parts, admitted.roles))
+    let mut parts = PartList::new();
+    let admitted = Admitted::read(sheet, &mut table, &mut parts)?;
+    Ok(count_parts(admitted.parts, admitted.roles))
 }
 
 // Three bytes for each part: its kind, its number, and whether it is read under an odd number of nots. Answers how many parts.
@@ -68,12 +69,13 @@ pub fn list_marks(sheet: &[u8], list: &mut [u8]) -> Result<usize, Refusal>
     ensures { Lists (read_kb limit sheet.now) list.old list.new result }
 {
     let mut table = Table::new();
-    let admitted = Admitted::read(sheet, &mut table)?;
+    let mut parts = PartList::new();
+    let admitted = Admitted::read(sheet, &mut table, &mut parts)?;
     let count = admitted.parts.len();
     if list.len() < count + count + count {
         return Err(Refusal::of(Reason::ListTooShort));
     }
-    write_parts(&admitted.parts, list);
+    write_parts(admitted.parts, list);
     Ok(count)
 }
 

@@ -5,7 +5,7 @@ ghost use Rattle.flattening.specs.Origins.{role_of, part_of};
 ghost use Rattle.tbox.specs.Promise.{Loads};
 ghost use Rattle.tbox.specs.PlainData.{RoleOf, PartIs, PartsAre};
 
-use crate::admission::Admitted;
+use crate::admission::{Admitted, PartList};
 use crate::base::{Base, Filler, Kind, Part, Size};
 use crate::inclusions::closed_words;
 use crate::truth::{good_words, role_word};
@@ -21,15 +21,16 @@ pub fn load(sheet: &[u8]) -> Result<Base, Refusal>
     ensures { Loads sheet.now result }
 {
     let mut table = Table::new();
-    let admitted = Admitted::read(sheet, &mut table)?;
+    let mut parts = PartList::new();
+    let admitted = Admitted::read(sheet, &mut table, &mut parts)?;
     Ok(Base {
         names: admitted.names,
         size: Size {
             parts: admitted.parts.len(),
             roles: admitted.roles,
         },
-        parts: parts_of(&table, &admitted.parts),
-        good: good_words(&table, admitted.names, &admitted.parts),
+        parts: parts_of(&table, admitted.parts),
+        good: good_words(&table, admitted.names, admitted.parts),
         closed: closed_words(&table),
     })
 }
@@ -73,5 +74,5 @@ fn role_words(table: &Table, restriction: Source) -> [u64; 4]
     ensures { RoleOf (role_of table.now restriction) result }
 {
     let role = restricted_role(table, restriction);
-    array::from_fn(|w| role_word(role, w as u64))
+    array::from_fn(|w| role_word(table, role.number, role.below, w as u64))
 }

@@ -11,5 +11,4 @@ returns-in_err-admitted c =
 pub returns : goal.returns
 returns c =
     let a = c.in_ok-admitted.ensures in
-    let n = rw c.deref.ensures.0 at c.count_parts.ensures in
-    record { value = read_whole _ _ _ a _ n; sum = read-sum _ _ _ a _ n }
+    record { value = read_whole _ _ _ a _ c.count_parts.ensures; sum = read-sum _ _ _ a _ c.count_parts.ensures }

@@ -7,10 +7,10 @@ use Rattle.flattening.proofs.parts.name_parts.Goals as goal
 
 pub loop-i-init : goal.loop-i-init
 unfolding name_parts_lem parts_from
-loop-i-init c = record { size = rw c.new-parts.ensures refl; room = omega arith; names = λ es. rw c.new-parts.ensures refl }
+loop-i-init g c = record { size = rw c.new-parts.ensures refl; room = omega arith; names = λ es. rw c.new-parts.ensures refl }
 
 pub loop-i-preserved : goal.loop-i-preserved
-loop-i-preserved c =
+loop-i-preserved g c =
     let e = c.in_ok-try_push.ensures in
     let v = c.loop-i.invariant in
     record {

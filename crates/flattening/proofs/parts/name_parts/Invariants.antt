@@ -6,8 +6,8 @@ use Rattle.flattening.specs.Origins.{parts_in}
 use Rattle.flattening.proofs.parts.name_parts.Given as goal
 
 abbrev pub invariant-loop-i : goal.invariant-loop-i
-invariant-loop-i l = record {
+invariant-loop-i g l = record {
   size : length l.parts.items ≡ l.i;
-  room : l.i ≤ 20;
+  room : l.i ≤ g.row.N;
   names : (es : List Entry) → parts_in es l.parts.items ≡ name_parts_lem l.i;
 }

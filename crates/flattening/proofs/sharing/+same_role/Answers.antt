@@ -5,7 +5,7 @@ use Rattle.flattening.proofs.RoleTrees.{records_same, outer_is, unlike, leaf_sam
 use Rattle.flattening.proofs.sharing.+same_role.Goals as goal
 
 pub returns-then-same_record : goal.returns-then-same_record
-returns-then-same_record t c = records_same c.args.x c.args.y c.requires (c.same_record.ensures c.if-same_record.true)
+returns-then-same_record t c = records_same _ _ _ _ _ (c.same_record.ensures c.if-same_record.true)
 
 pub returns-in-Role-Role : goal.returns-in-Role-Role
 returns-in-Role-Role t c = leaf_same _ _ named (λ m n e. cc) _ _ c.in-Role-Role.ensures c.in-Role-Role.ensures'
@@ -16,53 +16,53 @@ returns-in-Inverse-Inverse t c = leaf_same _ _ inverse (λ m n e. cc) _ _ c.in-I
 pub returns-in-RoleNot-RoleNot : goal.returns-in-RoleNot-RoleNot
 returns-in-RoleNot-RoleNot t c =
     let w = c.in-RoleNot-RoleNot in
-    not_same _ _ _ _ w.ensures.1 w.ensures'.1 _ (rw (c.operand.ensures, c.operand-in-RoleNot-RoleNot.ensures) at c.same_role.ensures)
+    not_same _ _ _ _ w.ensures.1 w.ensures'.1 _ (rw (c.from-i.ensures, c.from-j.ensures) at c.same_role.ensures)
 
 pub returns-then-same_role : goal.returns-then-same_role
 returns-then-same_role t c =
     let w = c.in-RoleAnd-RoleAnd in
     both_then _ _ and_r (λ a c b d e. (cc, cc)) _ _ _ _ w.ensures.1 w.ensures'.1 _
-    (rw (c.operand-in-RoleAnd-RoleAnd.ensures, c.operand-in-RoleAnd-RoleAnd-2.ensures) at c.same_role-in-RoleAnd-RoleAnd.ensures) c.if-same_role.true
-    _ (rw (c.operand-then-same_role.ensures, c.operand-then-same_role-2.ensures) at c.same_role-then-same_role.ensures)
+    (rw (c.from-i.ensures, c.from-j.ensures) at c.same_role-in-RoleAnd-RoleAnd.ensures) c.if-same_role.true
+    _ (rw (c.from-i.ensures, c.from-j.ensures) at c.same_role-then-same_role.ensures)
 
 pub returns-else-same_role : goal.returns-else-same_role
 returns-else-same_role t c =
     let w = c.in-RoleAnd-RoleAnd in
     both_else _ _ and_r (λ a c b d e. (cc, cc)) _ _ _ _ w.ensures.1 w.ensures'.1 _
-    (rw (c.operand-in-RoleAnd-RoleAnd.ensures, c.operand-in-RoleAnd-RoleAnd-2.ensures) at c.same_role-in-RoleAnd-RoleAnd.ensures) c.if-same_role.false
+    (rw (c.from-i.ensures, c.from-j.ensures) at c.same_role-in-RoleAnd-RoleAnd.ensures) c.if-same_role.false
 
 pub returns-then-same_role-2 : goal.returns-then-same_role-2
 returns-then-same_role-2 t c =
     let w = c.in-RoleOr-RoleOr in
     both_then _ _ or_r (λ a c b d e. (cc, cc)) _ _ _ _ w.ensures.1 w.ensures'.1 _
-    (rw (c.operand-in-RoleOr-RoleOr.ensures, c.operand-in-RoleOr-RoleOr-2.ensures) at c.same_role-in-RoleOr-RoleOr.ensures) c.if-same_role-2.true
-    _ (rw (c.operand-then-same_role-2-2.ensures, c.operand-then-same_role-2-3.ensures) at c.same_role-then-same_role-2.ensures)
+    (rw (c.from-i.ensures, c.from-j.ensures) at c.same_role-in-RoleOr-RoleOr.ensures) c.if-same_role-2.true
+    _ (rw (c.from-i.ensures, c.from-j.ensures) at c.same_role-then-same_role-2.ensures)
 
 pub returns-else-same_role-2 : goal.returns-else-same_role-2
 returns-else-same_role-2 t c =
     let w = c.in-RoleOr-RoleOr in
     both_else _ _ or_r (λ a c b d e. (cc, cc)) _ _ _ _ w.ensures.1 w.ensures'.1 _
-    (rw (c.operand-in-RoleOr-RoleOr.ensures, c.operand-in-RoleOr-RoleOr-2.ensures) at c.same_role-in-RoleOr-RoleOr.ensures) c.if-same_role-2.false
+    (rw (c.from-i.ensures, c.from-j.ensures) at c.same_role-in-RoleOr-RoleOr.ensures) c.if-same_role-2.false
 
 pub returns-in_default : goal.returns-in_default
 returns-in_default t c =
-    unlike _ _ (λ e. c.in_default.not-Role-1 _ (outer_is c.args.y _ (named _) c.outer_role-2.ensures (sym e ∙ c.in_default.ensures)))
+    unlike _ _ (λ e. c.in_default.not-Role-1 _ (outer_is _ _ _ _ (named _) c.outer_role-2.ensures (sym e ∙ c.in_default.ensures)))
 
 pub returns-in_default-2 : goal.returns-in_default-2
 returns-in_default-2 t c =
-    unlike _ _ (λ e. c.in_default.not-Inverse-1 _ (outer_is c.args.y _ (inverse _) c.outer_role-2.ensures (sym e ∙ c.in_default.ensures)))
+    unlike _ _ (λ e. c.in_default.not-Inverse-1 _ (outer_is _ _ _ _ (inverse _) c.outer_role-2.ensures (sym e ∙ c.in_default.ensures)))
 
 pub returns-in_default-3 : goal.returns-in_default-3
 returns-in_default-3 t c =
-    unlike _ _ (λ e. let w = outer_is c.args.y _ (not_r _) c.outer_role-2.ensures (sym e ∙ c.in_default.ensures.1) in
+    unlike _ _ (λ e. let w = outer_is _ _ _ _ (not_r _) c.outer_role-2.ensures (sym e ∙ c.in_default.ensures.1) in
     c.in_default.not-RoleNot-1 _ w.1)
 
 pub returns-in_default-4 : goal.returns-in_default-4
 returns-in_default-4 t c =
-    unlike _ _ (λ e. let w = outer_is c.args.y _ (and_r _ _) c.outer_role-2.ensures (sym e ∙ c.in_default.ensures.1) in
+    unlike _ _ (λ e. let w = outer_is _ _ _ _ (and_r _ _) c.outer_role-2.ensures (sym e ∙ c.in_default.ensures.1) in
     c.in_default.not-RoleAnd-1 _ _ w.2)
 
 pub returns-in_default-5 : goal.returns-in_default-5
 returns-in_default-5 t c =
-    unlike _ _ (λ e. let w = outer_is c.args.y _ (or_r _ _) c.outer_role-2.ensures (sym e ∙ c.in_default.ensures.1) in
+    unlike _ _ (λ e. let w = outer_is _ _ _ _ (or_r _ _) c.outer_role-2.ensures (sym e ∙ c.in_default.ensures.1) in
     c.in_default.not-RoleOr-1 _ _ w.2)

@@ -12,7 +12,7 @@ pub returns-then-eq-2 : goal.returns-then-eq-2
 returns-then-eq-2 c =
     elim c.if-eq.branch [
       | then-eq w ↦ told_role _ _ _ _ _ _ _ _ c.in-Restriction.is (sym w.if-eq.true ∙ c.eq.ensures) (sym c.if-eq-2.true ∙ w.value-is ∙ w.eq-then-eq.ensures)
-          _ (rw c.restricted_role.ensures.1 at c.same_role.ensures)
+          _ (rw (rw c.restricted_role-other.ensures.0 at c.restricted_role-other.ensures.1) at c.same_role.ensures)
       | else-eq w ↦ absurd (false≢true (sym w.if-eq.false ∙ sym w.value-is ∙ c.if-eq-2.true))
     ]
 

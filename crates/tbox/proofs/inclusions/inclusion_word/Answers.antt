@@ -4,4 +4,4 @@ use Rattle.tbox.proofs.InclusionTruth.{inclusion_holds}
 use Rattle.tbox.proofs.inclusions.inclusion_word.Goals as goal
 
 pub returns : goal.returns
-returns c = c.join.ensures _ _ _ (c.complement.ensures _ _ c.role_word.ensures) (c.role_word-2.ensures) ∙ inclusion_holds _ _ _
+returns c = c.join.ensures _ _ _ (c.complement.ensures _ _ c.role_word-x.ensures) c.role_word-y.ensures ∙ inclusion_holds _ _ _

@@ -4,5 +4,5 @@ use Rattle.tbox.proofs.BaseTables.{loads_whole}
 use Rattle.tbox.proofs.loading.load.Goals as goal
 
 pub returns : goal.returns
-returns c = loads_whole _ _ _ c.in_ok-admitted.ensures _ refl refl c.len.ensures.value
-    (rw c.deref.ensures.0 at c.parts_of.ensures) (rw c.deref-2.ensures.0 at c.good_words.ensures) c.closed_words.ensures
+returns c = loads_whole _ _ _ c.in_ok-admitted.ensures _ refl refl refl
+    c.parts_of.ensures c.good_words.ensures c.closed_words.ensures

@@ -22,7 +22,7 @@ returns-then-len-scanned-gt-LIMIT c =
     rw (over.ensures.0, over.ensures.1) (parts_over _ _ _ c.in_ok-scanned.ensures (omega (arith, made-length _ _ _ c.in-Ok.ensures)))
 
 pub invariant_of-result : goal.invariant_of-result
-invariant_of-result c = record { small = omega arith; few = scanned_few _ _ _ c.in_ok-scanned.ensures }
+invariant_of-result c = record { small = rw c.as_slice.ensures.value (omega arith); few = scanned_few _ _ _ c.in_ok-scanned.ensures }
 
 pub returns : goal.returns
-returns c = record { records = (_, c.in_ok-scanned.ensures); reading = parts_fit _ _ _ c.in_ok-scanned.ensures (omega (arith, made-length _ _ _ c.in-Ok.ensures)); parts = c.in-Ok.ensures }
+returns c = record { records = (_, c.in_ok-scanned.ensures); reading = parts_fit _ _ _ c.in_ok-scanned.ensures (omega (arith, made-length _ _ _ c.in-Ok.ensures)); parts = rw c.as_slice.ensures.value c.in-Ok.ensures }
