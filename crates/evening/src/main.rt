@@ -1,7 +1,8 @@
 // The evening program: reads one sheet from standard input and prints what judging it with 4,096 words says.
 #![tactic(auto)]
 
-ghost use Rattle.std.specs.Prelude.{◌≡◌, ◌≤◌, length, IfOk};
+ghost use Rattle.std.specs.Prelude.{◌≡◌, ◌≤◌, ◌<◌, length, IfOk};
+ghost use Rattle.std.specs.Io.KnownBytes.{Consumes, IsAtEnd};
 ghost use Rattle.console.specs.Output.{handed};
 ghost use Rattle.report.specs.Lines.{printed};
 ghost use Rattle.evening.specs.Sheet.{most, answered};
@@ -11,11 +12,14 @@ use console::{Printed, complain};
 use std::io;
 use std::io::{Read, Stdout};
 
-// Reads the sheet, as much of the input as a sheet may have and one byte more.
+// Reads the sheet, as much of the input as a sheet may have and one byte more: of a reader whose bytes are known the next ones, in
+// order, and fewer only if the input ends there.
 // The length is a clause, not `[u8; 766]`, so that a buffer for more bytes fails a proof and not only a type.
 fn read_sheet<'a, R: Read>(from: &mut R, buffer: &'a mut [u8]) -> io::Result<&'a [u8]>
     requires { length buffer.old ≡ most }
-    ensures { IfOk result (λ sheet. length sheet.now ≤ most) }
+    ensures bound { IfOk result (λ sheet. length sheet.now ≤ most) }
+    ensures bytes { IfOk result (λ sheet. Consumes (R.remaining from.old) (R.remaining from.new) sheet.now) }
+    ensures end { IfOk result (λ sheet. length sheet.now < most → IsAtEnd (R.remaining from.new)) }
 {
     let n = console::read_all(from, buffer)?;
     Ok(&buffer[..n])

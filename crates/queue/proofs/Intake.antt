@@ -1,11 +1,15 @@
--- Bytes read for a step, behind its kind.
+-- Bytes read for a step: its kind, and what stands behind it.
 use Prim.Native.Nat.{ℕ, ◌+◌, ◌-◌, ◌≤◌}
-use mathlib.Core.Path.{◌≡◌, sym, ap, ◌∙◌}
-use mathlib.Core.List.{List}
+use mathlib.Core.Path.{◌≡◌, sym, ap, ◌∙◌, subst}
+use mathlib.Core.List.{List, ◌++◌}
 use native.Mathlib.Omega.{arith}
 use lib.ListN.{length, get_or, take}
-use lib.Seq.{get_or-take, length-take-le}
+use lib.Seq.{get_or-take, length-take-le, take-append-le}
 use borrow.Rule.Slice.PartMut.{mid_of, put_mid, same_len_mid, mid_len, take_put}
+use Rattle.std.specs.Prelude.{Option}
+use Rattle.std.specs.Io.KnownBytes.{Consumes}
+use Rattle.std.proofs.KnownBytes.{Consumes-trans}
+use Rattle.console.proofs.Reading.{read_behind}
 use Rattle.queue.specs.Queue.{kind_of}
 use Rattle.queue.specs.Steps.{wanted}
 use Rattle.queue.proofs.Fitting.{wanted-some, wanted-most}
@@ -26,3 +30,14 @@ module _ (sheets n m : ℕ) (buffer last : List ℕ) (long : length buffer ≡ 7
       ∙ ap (λ (l : List ℕ). get_or l 0 0) front ∙ get_or-take 1 buffer 0 0 (omega arith) in
       let w : wanted sheets (get_or (take (1 + m) after) 0 0) ≡ n = ap (wanted sheets) kind ∙ sym all in
       omega (arith, length-take-le (1 + m) after (omega arith))
+
+-- a reader gave the kind, and then m bytes that were read behind it: both are what stands in front
+module _ (given left last : Option (List ℕ)) (k n m : ℕ) (kind behind brought : List ℕ) where
+  pub step_read : length kind ≡ 1 → length (kind ++ behind) ≡ 768 → (k ≡ 0 → ⊥) → k ≤ length kind → Consumes given left (take k kind)
+      → m ≤ length brought → Consumes left last (take m brought) → Consumes given last (take (1 + m) (put_mid 1 (n - 1) (kind ++ behind) brought))
+  step_read one long some few first more next =
+      let k_one : k ≡ 1 = omega (arith, some) in
+      let front : take k kind ≡ take 1 (kind ++ behind) = ap (λ j. take j kind) k_one ∙ sym (take-append-le 1 kind behind (omega arith)) in
+      subst (Consumes given last)
+      (ap (λ (l : List ℕ). l ++ take m brought) front ∙ read_behind 1 (n - 1) m (kind ++ behind) brought (omega arith) more)
+      (Consumes-trans given left last _ _ first next)

@@ -2,7 +2,10 @@
 // totals.
 #![tactic(auto)]
 
-ghost use Rattle.queue.specs.Steps.{ReadsStep, bytes_read, Takes, Turns, Served};
+ghost use Rattle.std.specs.Prelude.{◌<◌, length, IfOk};
+ghost use Rattle.std.specs.Io.KnownBytes.{Consumes, IsAtEnd};
+ghost use Rattle.queue.specs.Queue.{kind_of};
+ghost use Rattle.queue.specs.Steps.{wanted, ReadsStep, bytes_read, Takes, Turns, Served};
 
 use crate::lines::Line;
 use crate::steps::{Stepped, step, wanted};
@@ -23,14 +26,17 @@ pub struct Turned {
     pub printed: Printed<160>,
 }
 
-// Reads what the next step wants into the buffer, a kind and then what stands behind it. Their count is bounded; which bytes are
-// read no contract can say, and process tests alone hold it.
+// Reads what the next step wants into the buffer, a kind and then what stands behind it: of a reader whose bytes are known the next
+// ones, in order, and fewer only if the input ends there. Which bytes standard input brings no contract can say, and process tests
+// alone hold it.
 fn read_step<'a, R: Read>(
     from: &mut R,
     buffer: &'a mut [u8; 768],
     sheets: u64,
 ) -> io::Result<&'a [u8]>
-    ensures { ReadsStep sheets result }
+    ensures bound { ReadsStep sheets result }
+    ensures bytes { IfOk result (λ bytes. Consumes (R.remaining from.old) (R.remaining from.new) bytes.now) }
+    ensures end { IfOk result (λ bytes. length bytes.now < wanted sheets (kind_of bytes.now) → IsAtEnd (R.remaining from.new)) }
 {
     let first = read_all(from, &mut buffer[..1])?;
     if first == 0 {
