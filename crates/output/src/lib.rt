@@ -1,4 +1,4 @@
-// Bytes put into a lent buffer, and the answer of a call that writes bytes.
+// Bytes put into a lent buffer.
 #![tactic(auto)]
 
 ghost use Rattle.std.specs.Prelude.{◌+◌, ◌≤◌, length};
