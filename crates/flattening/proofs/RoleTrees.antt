@@ -88,11 +88,12 @@ same_iff u v b f g = go b (same_role_lem u v) refl f g (role_same u v) (same_rol
     go false false q f g h k = refl
 
 -- one record of one table, whatever it is below
-pub records_same : (es : List Entry) (m n a b : ℕ) → (a ≡ b) × (a < m) × (b < n) → true ≡ same_role_lem (role_below es m a) (role_below es n b)
-records_same es m n a b w = sym (same_role_law (role_below es m a) (role_below es n b) (go w.0 w.1 w.2))
+pub records_same : (es fs : List Entry) (m n a b : ℕ) → es ≡ fs → (a ≡ b) × (a < m) × (b < n) →
+    true ≡ same_role_lem (role_below es m a) (role_below fs n b)
+records_same es fs m n a b e w = sym (same_role_law (role_below es m a) (role_below fs n b) (go e w.0 w.1 w.2))
   where
-    go : a ≡ b → a < m → b < n → role_below es m a ≡ role_below es n b
-    go q l h = let k : b < m = omega arith in rw q (role-low es m n b k h)
+    go : es ≡ fs → a ≡ b → a < m → b < n → role_below es m a ≡ role_below fs n b
+    go e q l h = let k : b < m = omega arith in rw (e, q) (role-low fs m n b k h)
 
 pub unlike : (u v : RoleTree) → (u ≡ v → ⊥) → false ≡ same_role_lem u v
 unlike u v n = same_iff u v false (λ e. absurd (false≢true e)) (λ e. absurd (n e))

@@ -1,11 +1,11 @@
 -- Two roles by their outermost records.
-use Rattle.std.proofs.Common.{sym, ◌∙◌}
+use Rattle.std.proofs.Common.{refl, sym, ◌∙◌}
 use Rattle.syntax.specs.Concepts.{named, inverse, not_r, and_r, or_r}
 use Rattle.flattening.proofs.RoleTrees.{records_same, outer_is, unlike, leaf_same, not_same, both_then, both_else}
 use Rattle.flattening.proofs.sharing.+same_role.Goals as goal
 
 pub returns-then-same_record : goal.returns-then-same_record
-returns-then-same_record t c = records_same _ _ _ _ _ (c.same_record.ensures c.if-same_record.true)
+returns-then-same_record t c = records_same _ _ _ _ _ _ refl (c.same_record.ensures c.if-same_record.true)
 
 pub returns-in-Role-Role : goal.returns-in-Role-Role
 returns-in-Role-Role t c = leaf_same _ _ named (λ m n e. cc) _ _ c.in-Role-Role.ensures c.in-Role-Role.ensures'
